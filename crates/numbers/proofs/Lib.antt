@@ -1,0 +1,4 @@
+pub mod Digits
+pub mod SetsLawful
+pub mod Turning
+pub mod Words

@@ -1,0 +1,5 @@
+pub mod Bits
+pub mod Roles
+pub mod RoleSets
+pub mod Sets
+pub mod TermSets

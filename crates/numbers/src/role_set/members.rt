@@ -1,0 +1,79 @@
+// What a role set has as members, by operations on its word.
+ghost use mathlib.Core.Path.{_≡_};
+ghost use Rattle.std.specs.Orderings.{Decides};
+ghost use Rattle.numbers.specs.Roles.{turn, role-number};
+ghost use Rattle.numbers.specs.declared.role.DirectedRole.{DirectedRole};
+ghost use Rattle.numbers.specs.RoleSets.{role-has, role-none, role-single, role-covers, role-joined, turned-set};
+use crate::set::NumberSet;
+use crate::role::DirectedRole;
+use crate::role::Role;
+use super::RoleSet;
+
+// The word in which only the directed role's bit is 1, or 0 where it is no possible member.
+fn mask(role: DirectedRole) -> u32
+    ensures { λ r. ⌜ r ≡ role-single (role-number role) .bits ⌝ }
+{
+    match role {
+        DirectedRole::Forward(Role(n)) if n >= 1 && n <= 16 => 1 << (n - 1),
+        DirectedRole::Backward(Role(n)) if n >= 1 && n <= 16 => 1 << (n + 15),
+        _ => 0,
+    }
+}
+
+pub impl NumberSet for RoleSet as RoleSetMembers {
+    type Item = DirectedRole;
+
+    ghost limit = { 32 };
+
+    ghost has = { role-has };
+
+    ghost number = { role-number };
+
+    ghost none = { role-none };
+
+    ghost single = { role-single };
+
+    ghost covers = { role-covers };
+
+    ghost joined = { role-joined };
+
+    fn empty() -> RoleSet {
+        RoleSet { bits: 0 }
+    }
+
+    fn only(item: DirectedRole) -> RoleSet {
+        RoleSet { bits: mask(item) }
+    }
+
+    fn contains(self, item: DirectedRole) -> bool {
+        self.bits & mask(item) != 0
+    }
+
+    fn includes(self, other: RoleSet) -> bool {
+        self.bits & other.bits == other.bits
+    }
+
+    fn union(self, other: RoleSet) -> RoleSet {
+        RoleSet { bits: self.bits | other.bits }
+    }
+}
+
+pub impl PartialEq<RoleSet> for RoleSet as RoleSetPartialEq {
+    ghost equals = { λ a b r. Decides r (a ≡ b) };
+
+    fn eq(&self, other: &RoleSet) -> bool {
+        self.bits == other.bits
+    }
+}
+
+impl RoleSet {
+    // The set of the same roles, each read in the other direction.
+    pub fn turned(self) -> RoleSet
+        ensures value { λ r. ⌜ r ≡ turned-set self ⌝ }
+        ensures members { λ r. ⌜ ((role : DirectedRole) → role-has r (role-number role) ≡ role-has self (role-number (turn role))) ⌝ }
+        ensures back { λ r. ⌜ turned-set r ≡ self ⌝ }
+        ensures inclusion { λ r. ⌜ ((other : RoleSet) → role-covers r (turned-set other) ≡ role-covers self other) ⌝ }
+    {
+        RoleSet { bits: (self.bits >> 16) | (self.bits << 16) }
+    }
+}

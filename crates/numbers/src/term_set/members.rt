@@ -1,0 +1,63 @@
+// What a term set has as members, by operations on its word.
+ghost use mathlib.Core.Path.{_≡_};
+ghost use Rattle.std.specs.Orderings.{Decides};
+ghost use Rattle.numbers.specs.TermSets.{term-has, term-number, term-none, term-single, term-covers, term-joined};
+use crate::set::NumberSet;
+use crate::term::Term;
+use super::TermSet;
+
+// The word in which only the term's bit is 1, or 0 where the term is no possible member.
+fn mask(term: Term) -> u64
+    ensures { λ r. ⌜ r ≡ term-single (term-number term) .bits ⌝ }
+{
+    match term.0 {
+        1..=64 => 1 << (term.0 - 1),
+        _ => 0,
+    }
+}
+
+pub impl NumberSet for TermSet as TermSetMembers {
+    type Item = Term;
+
+    ghost limit = { 64 };
+
+    ghost has = { term-has };
+
+    ghost number = { term-number };
+
+    ghost none = { term-none };
+
+    ghost single = { term-single };
+
+    ghost covers = { term-covers };
+
+    ghost joined = { term-joined };
+
+    fn empty() -> TermSet {
+        TermSet { bits: 0 }
+    }
+
+    fn only(item: Term) -> TermSet {
+        TermSet { bits: mask(item) }
+    }
+
+    fn contains(self, item: Term) -> bool {
+        self.bits & mask(item) != 0
+    }
+
+    fn includes(self, other: TermSet) -> bool {
+        self.bits & other.bits == other.bits
+    }
+
+    fn union(self, other: TermSet) -> TermSet {
+        TermSet { bits: self.bits | other.bits }
+    }
+}
+
+pub impl PartialEq<TermSet> for TermSet as TermSetPartialEq {
+    ghost equals = { λ a b r. Decides r (a ≡ b) };
+
+    fn eq(&self, other: &TermSet) -> bool {
+        self.bits == other.bits
+    }
+}
