@@ -3,3 +3,4 @@ pub mod Roles
 pub mod RoleSets
 pub mod Sets
 pub mod TermSets
+pub mod Terms

@@ -1,6 +1,6 @@
 // A role by its number, and a role with the direction in which it is read.
 ghost use mathlib.Core.Path.{_≡_};
-ghost use Rattle.numbers.specs.Roles.{turn};
+ghost use Rattle.numbers.specs.Roles.{turn, is-role};
 
 // The roles that mean something have the numbers 1 to 16; the calls that are given a role test that.
 #[derive(Clone, Copy, PartialEq, Eq, Debug)]
@@ -14,6 +14,14 @@ pub enum DirectedRole {
 }
 
 impl DirectedRole {
+    // Whether the number is one that a role may have.
+    pub fn in_range(self) -> bool
+        ensures { λ r. ⌜ r ≡ is-role self ⌝ }
+    {
+        let (DirectedRole::Forward(role) | DirectedRole::Backward(role)) = self;
+        role.0 >= 1 && role.0 <= 16
+    }
+
     // The same role read in the other direction.
     pub fn turned(self) -> DirectedRole
         ensures value { λ r. ⌜ r ≡ turn self ⌝ }

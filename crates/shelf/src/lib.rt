@@ -1,0 +1,7 @@
+// Shelves: lists of axioms or faults that can be asked, and the catalogue format in which they are stored.
+pub mod fault;
+pub mod form;
+pub mod joined;
+pub mod limit;
+pub mod records;
+pub mod shelf;
