@@ -1,4 +1,7 @@
 // Shelves: lists of axioms or faults that can be asked, and the catalogue format in which they are stored.
+mod body;
+pub mod catalogue;
+mod contents;
 pub mod fault;
 pub mod form;
 pub mod joined;
