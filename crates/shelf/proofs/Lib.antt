@@ -1,2 +1,7 @@
+pub mod BodyRead
 pub mod CatalogueBodies
+pub mod Filling
+pub mod LaidOut
 pub mod LeftLists
+pub mod LeftRead
+pub mod Members

@@ -63,16 +63,24 @@ second-field at o = okOr o (at-byte Second (at + 2))
 abbrev pub no-left : {X : Type 0} → ℕ → List ℕ → X → Result X ByteFault
 no-left at l x = cond (eqb (length l) 0) (Ok x) (Err (at-byte Left (at + 3)))
 
+-- one of six by the kind byte, or the last
+abbrev pub by-kind : {R : Type 0} → ℕ → R → R → R → R → R → R → R → R
+by-kind k a b c d e f other = cond (eqb k 1) a (cond (eqb k 2) b (cond (eqb k 3) c (cond (eqb k 4) d (cond (eqb k 5) e (cond (eqb k 6) f other)))))
+
+-- a form that is made of its two fields
+abbrev pub of-fields : {X Y : Type 0} → ℕ → Option X → Option Y → (X → Y → Result (Form (List ℕ)) ByteFault) → Result (Form (List ℕ)) ByteFault
+of-fields at o p make = and-then (first-field at o) (λ x. and-then (second-field at p) (λ y. make x y))
+
 -- the six kinds
 abbrev pub read-fields : ℕ → ℕ → ℕ → ℕ → List ℕ → Result (Form (List ℕ)) ByteFault
-read-fields at k f s l =
-    cond (eqb k 1) (and-then (first-field at (zero-of f)) (λ _. and-then (second-field at (term-of s)) (λ t. Ok (Under l t))))
-    (cond (eqb k 2) (and-then (first-field at (zero-of f)) (λ _. and-then (second-field at (zero-of s)) (λ _. Ok (Nothing l))))
-    (cond (eqb k 3) (and-then (first-field at (role-of f)) (λ r. and-then (second-field at (filler-of s)) (λ x. Ok (Exists l r x))))
-    (cond (eqb k 4) (and-then (first-field at (role-of f)) (λ r. and-then (second-field at (term-of s)) (λ t. Ok (Only l r t))))
-    (cond (eqb k 5) (and-then (first-field at (role-of f)) (λ r. and-then (second-field at (filler-of s)) (λ x. Ok (AtMostOne l r x))))
-    (cond (eqb k 6) (and-then (first-field at (role-of f)) (λ r. and-then (second-field at (role-of s)) (λ q. no-left at l (RoleUnder r q))))
-    (Err (at-byte Kind at)))))))
+read-fields at k f s l = by-kind k
+    (of-fields at (zero-of f) (term-of s) (λ _ t. Ok (Under l t)))
+    (of-fields at (zero-of f) (zero-of s) (λ _ _. Ok (Nothing l)))
+    (of-fields at (role-of f) (filler-of s) (λ r x. Ok (Exists l r x)))
+    (of-fields at (role-of f) (term-of s) (λ r t. Ok (Only l r t)))
+    (of-fields at (role-of f) (filler-of s) (λ r x. Ok (AtMostOne l r x)))
+    (of-fields at (role-of f) (role-of s) (λ r q. no-left at l (RoleUnder r q)))
+    (Err (at-byte Kind at))
 
 -- the form of a body of 3 bytes or more that starts at the byte `at`
 abbrev pub read-form : ℕ → List ℕ → Result (Form (List ℕ)) ByteFault

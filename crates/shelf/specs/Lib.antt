@@ -8,3 +8,4 @@ pub mod Handed
 pub mod RecordLists
 pub mod Records
 pub mod Shelves
+pub mod Writing

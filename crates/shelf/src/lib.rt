@@ -8,3 +8,4 @@ pub mod joined;
 pub mod limit;
 pub mod records;
 pub mod shelf;
+pub mod writer;
