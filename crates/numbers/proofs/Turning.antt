@@ -69,13 +69,14 @@ has-turned x zero h = refl
 has-turned x (suc k) h = ⊎-elim
     (λ (l : k < 16). digit x k ∙ or-false _ _ _ refl (bit-mod (x * 2 ^ 16) 32 k (omega arith) ∙ bit-low x 16 k l) ∙ ap (word-has x) (number-is (suc (16 + k)) (grind (arith, tells))))
     (λ (l : 16 ≤ k). ⊎-elim
-      (λ (m : k < 32). digit x k ∙ or-other _ _ _ (bit-past x 32 (16 + k) h (omega arith)) (bit-mod (x * 2 ^ 16) 32 k m ∙ shifted l) ∙ ap (word-has x) (number-is (suc (k - 16)) (grind (arith, tells))))
-      (λ (m : 32 ≤ k). bit-past (word-turned x) 32 k (turned-small x h) m ∙ sym (bit-past x 32 k h m) ∙ ap (word-has x) (number-is (suc k) (grind (arith, tells))))
-      (cases-lt k 32))
+    (λ (m : k < 32). digit x k ∙ or-other _ _ _ (bit-past x 32 (16 + k) h (omega arith)) (bit-mod (x * 2 ^ 16) 32 k m ∙ shifted l) ∙ ap (word-has x) (number-is (suc (k - 16)) (grind (arith, tells))))
+    (λ (m : 32 ≤ k). bit-past (word-turned x) 32 k (turned-small x h) m ∙ sym (bit-past x 32 k h m) ∙ ap (word-has x) (number-is (suc k) (grind (arith, tells))))
+    (cases-lt k 32))
     (cases-lt k 16)
   where
     number-is : (m : ℕ) → m ≡ turned-number (suc k) → m ≡ turned-number (suc k)
     number-is m e = e
+
     shifted : 16 ≤ k → bit (x * 2 ^ 16) k ≡ bit x (k - 16)
     shifted l = ap (bit (x * 2 ^ 16)) (omega arith) ∙ bit-high x 16 (k - 16)
 
@@ -89,9 +90,9 @@ turned-back s = same-roles _ _ (words-same 32 _ _ (turned-set (turned-set s) .sm
 pub turned-covers : (a b : RoleSet) → role-covers (turned-set a) (turned-set b) ≡ role-covers a b
 turned-covers a b = same-from-decides _ _
     (decides-like (role-covers (turned-set a) (turned-set b))
-      (λ f n e. back a n (f (turned-number n) (has-turned (b .bits) (turned-number n) (b .small) ∙ ap (word-has (b .bits)) (turned-twice n) ∙ e)))
-      (λ f n e. has-turned (a .bits) n (a .small) ∙ f (turned-number n) (sym (has-turned (b .bits) n (b .small)) ∙ e))
-      (covers-includes 32 _ _ (turned-set a .small) (turned-set b .small)))
+    (λ f n e. back a n (f (turned-number n) (has-turned (b .bits) (turned-number n) (b .small) ∙ ap (word-has (b .bits)) (turned-twice n) ∙ e)))
+    (λ f n e. has-turned (a .bits) n (a .small) ∙ f (turned-number n) (sym (has-turned (b .bits) n (b .small)) ∙ e))
+    (covers-includes 32 _ _ (turned-set a .small) (turned-set b .small)))
     (covers-includes 32 (a .bits) (b .bits) (a .small) (b .small))
   where
     back : (s : RoleSet) (n : ℕ) → role-has (turned-set s) (turned-number n) ≡ true → role-has s n ≡ true

@@ -46,9 +46,10 @@ has-or a b zero = refl
 has-or a b (suc k) = bit-or a b k
 
 pub covers-includes : (w a b : ℕ) → a < 2 ^ w → b < 2 ^ w → Decides (word-covers a b) ((n : ℕ) → word-has b n ≡ true → word-has a n ≡ true)
-covers-includes w a b h l =
-    ( λ e. elim [ zero ↦ λ m. m | suc k ↦ λ m. (and-parts (bit a k) (bit b k) (sym (bit-and a b k) ∙ ap (λ (x : ℕ). bit x k) (eqb-true (bitAnd a b) b e) ∙ m)) .0 ]
-    , λ f. eq-eqb (bitAnd a b) b (bits-same w (bitAnd a b) b (and-lt w a b h l) l (λ k. bit-and a b k ∙ and-absorbs (bit a k) (bit b k) (f (suc k)))))
+covers-includes w a b h l = (
+  λ e. elim [ zero ↦ λ m. m | suc k ↦ λ m. (and-parts (bit a k) (bit b k) (sym (bit-and a b k) ∙ ap (λ (x : ℕ). bit x k) (eqb-true (bitAnd a b) b e) ∙ m)) .0 ],
+  λ f. eq-eqb (bitAnd a b) b (bits-same w (bitAnd a b) b (and-lt w a b h l) l (λ k. bit-and a b k ∙ and-absorbs (bit a k) (bit b k) (f (suc k)))),
+)
 
 pub words-same : (w a b : ℕ) → a < 2 ^ w → b < 2 ^ w → ((n : ℕ) → word-has a n ≡ word-has b n) → a ≡ b
 words-same w a b h l e = bits-same w a b h l (λ k. e (suc k))
@@ -63,15 +64,15 @@ pub has-mask : (w x n : ℕ) → x < 2 ^ w → not (eqb (bitAnd x (word-single w
 has-mask w x zero h = ap (λ (y : ℕ). not (eqb y 0)) (and-zero-r x)
 has-mask w x (suc k) h = ⊎-elim
     (λ (l : k < w). ap (λ (m : ℕ). not (eqb (bitAnd x m) 0)) (single-is w k l) ∙ ap (λ (y : ℕ). not (eqb y 0)) (and-power x k)
-      ∙ mask-digit (x / 2 ^ k % 2) k (2 ^ k) (pow-pos k) (omega arith))
+    ∙ mask-digit (x / 2 ^ k % 2) k (2 ^ k) (pow-pos k) (omega arith))
     (λ (l : w ≤ k). ap (λ (m : ℕ). not (eqb (bitAnd x m) 0)) (single-none w (suc k) (omega arith)) ∙ ap (λ (y : ℕ). not (eqb y 0)) (and-zero-r x)
-      ∙ sym (bit-past x w k h l))
+    ∙ sym (bit-past x w k h l))
     (cases-lt k w)
 
 -- A set S that is kept as a word of w digits keeps the laws of sets, if its parts are those of the word.
 pub word-laws : {S : Type 0} (w : ℕ) (bits : S → ℕ) (small : (s : S) → bits s < 2 ^ w) (known : (a b : S) → bits a ≡ bits b → a ≡ b)
-  (none : S) (single : ℕ → S) (joined : S → S → S) → bits none ≡ 0 → ((k : ℕ) → bits (single k) ≡ word-single w k) → ((a b : S) → bits (joined a b) ≡ bitOr (bits a) (bits b))
-  → SetLaws w (λ s. word-has (bits s)) none single (λ a b. word-covers (bits a) (bits b)) joined
+    (none : S) (single : ℕ → S) (joined : S → S → S) → bits none ≡ 0 → ((k : ℕ) → bits (single k) ≡ word-single w k) → ((a b : S) → bits (joined a b) ≡ bitOr (bits a) (bits b))
+    → SetLaws w (λ s. word-has (bits s)) none single (λ a b. word-covers (bits a) (bits b)) joined
 word-laws {S} w bits small known none single joined none-is single-is joined-is = record {
   within = λ a n. has-within w (bits a) n (small a);
   none-has = λ n. ap (λ (x : ℕ). word-has x n) none-is ∙ has-zero n;
@@ -90,5 +91,6 @@ word-laws {S} w bits small known none single joined none-is single-is joined-is 
   where
     covers-is : (a b : S) → Decides (word-covers (bits a) (bits b)) ((n : ℕ) → word-has (bits b) n ≡ true → word-has (bits a) n ≡ true)
     covers-is a b = covers-includes w (bits a) (bits b) (small a) (small b)
+
     joined-has : (a b : S) (n : ℕ) → word-has (bits (joined a b)) n ≡ (word-has (bits a) n || word-has (bits b) n)
     joined-has a b n = ap (λ (x : ℕ). word-has x n) (joined-is a b) ∙ has-or (bits a) (bits b) n

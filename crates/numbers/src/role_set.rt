@@ -9,5 +9,6 @@ pub struct RoleSet {
     bits: u32,
     ghost small: { bits < 2 ^ 32 },
 }
+
 pub use members::RoleSetMembers;
 pub use members::RoleSetPartialEq;

@@ -9,5 +9,6 @@ pub struct TermSet {
     bits: u64,
     ghost small: { bits < 2 ^ 64 },
 }
+
 pub use members::TermSetMembers;
 pub use members::TermSetPartialEq;

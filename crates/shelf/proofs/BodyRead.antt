@@ -50,7 +50,7 @@ filler-reads (Some t) h = cond-false (eqb (t .0) 0) _ _ (ne-eqb (t .0) 0 (omega 
 
 -- the two fields of a body are read, one after the other
 both-read : {X Y : Type 0} (at : ℕ) (o : Option X) (p : Option Y) (g : X → Y → Result (Form (List ℕ)) ByteFault) (x : X) (y : Y) (a : Result Axiom ByteFault)
-  → o ≡ Some x → p ≡ Some y → and-then (g x y) (to-axiom at) ≡ a → and-then (of-fields at o p g) (to-axiom at) ≡ a
+    → o ≡ Some x → p ≡ Some y → and-then (g x y) (to-axiom at) ≡ a → and-then (of-fields at o p g) (to-axiom at) ≡ a
 both-read {X} {Y} at o p g x y a i j h = ap₂ (λ (o′ : Option X) (p′ : Option Y). and-then (of-fields at o′ p′ g) (to-axiom at)) i j ∙ h
 
 left-read : (at : ℕ) (l : TermSet) (g : TermSet → Axiom) → and-then (left-set at (left-bytes l)) (λ s. Ok (g s)) ≡ Ok (g l)
@@ -145,7 +145,7 @@ nothing-left at (b ∷ bs) f g h = let no-form : Err (at-byte Left (at + 3)) ≡
 
 -- a form that came from two fields
 two-fields : {X Y : Type 0} (at : ℕ) (o : Option X) (p : Option Y) (make : X → Y → Result (Form (List ℕ)) ByteFault) (g : Form (List ℕ)) (bs : List ℕ)
-  → ((x : X) (y : Y) → o ≡ Some x → p ≡ Some y → make x y ≡ Ok g → form-bytes g ≡ bs) → of-fields at o p make ≡ Ok g → form-bytes g ≡ bs
+    → ((x : X) (y : Y) → o ≡ Some x → p ≡ Some y → make x y ≡ Ok g → form-bytes g ≡ bs) → of-fields at o p make ≡ Ok g → form-bytes g ≡ bs
 two-fields at o p make g bs bytes h =
     let v = came o _ (λ x. and-then (second-field at p) (λ y. make x y)) g h in
     let w = came p _ (λ y. make (v .0) y) g (v .2) in
@@ -161,10 +161,10 @@ fields-write : (at k f s : ℕ) (l : List ℕ) (g : Form (List ℕ)) → read-fi
 fields-write at k f s l g h = go (eqb k 1) (eqb k 2) (eqb k 3) (eqb k 4) (eqb k 5) (eqb k 6) refl refl refl refl refl refl h
   where
     go : (p q r t u v : Bool) → eqb k 1 ≡ p → eqb k 2 ≡ q → eqb k 3 ≡ r → eqb k 4 ≡ t → eqb k 5 ≡ u → eqb k 6 ≡ v
-      → cond p (of-fields at (zero-of f) (term-of s) (λ _ t. Ok (Under l t))) (cond q (of-fields at (zero-of f) (zero-of s) (λ _ _. Ok (Nothing l)))
+        → cond p (of-fields at (zero-of f) (term-of s) (λ _ t. Ok (Under l t))) (cond q (of-fields at (zero-of f) (zero-of s) (λ _ _. Ok (Nothing l)))
         (cond r (of-fields at (role-of f) (filler-of s) (λ r x. Ok (Exists l r x))) (cond t (of-fields at (role-of f) (term-of s) (λ r t. Ok (Only l r t)))
         (cond u (of-fields at (role-of f) (filler-of s) (λ r x. Ok (AtMostOne l r x))) (cond v (of-fields at (role-of f) (role-of s) (λ r q. no-left at l (RoleUnder r q))) (Err (at-byte Kind at))))))) ≡ Ok g
-      → form-bytes g ≡ k ∷ f ∷ s ∷ l
+        → form-bytes g ≡ k ∷ f ∷ s ∷ l
     go true q r t u v e₁ e₂ e₃ e₄ e₅ e₆ h = two-fields at (zero-of f) (term-of s) _ g _ (λ x y i j m. ap form-bytes (only (Under l y) g m) ∙ bytes-same 1 k 0 f (y .0) s l (sym (eqb-true k 1 e₁)) (zero-writes f x i) (term-writes s y j)) h
     go false true r t u v e₁ e₂ e₃ e₄ e₅ e₆ h = two-fields at (zero-of f) (zero-of s) _ g _ (λ x y i j m. ap form-bytes (only (Nothing l) g m) ∙ bytes-same 2 k 0 f 0 s l (sym (eqb-true k 2 e₂)) (zero-writes f x i) (zero-writes s y j)) h
     go false false true t u v e₁ e₂ e₃ e₄ e₅ e₆ h = two-fields at (role-of f) (filler-of s) _ g _ (λ x y i j m. ap form-bytes (only (Exists l x y) g m) ∙ bytes-same 3 k (role-byte x) f (filler-byte y) s l (sym (eqb-true k 3 e₃)) (role-writes f x i) (filler-writes s y j)) h

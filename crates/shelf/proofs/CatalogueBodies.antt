@@ -60,8 +60,10 @@ entry-stated bs m p = go p (readable bs) refl
   where
     all : List Entry
     all = map (λ i. placed m (suc i) (axiom-of bs i)) (counting 0 (entries bs))
+
     none : List Entry
     none = placed m 1 (Err (at-byte Contents 0)) ∷ []
+
     go : (p : ℕ) (b : Bool) → readable bs ≡ b → entry-at (catalogue-list bs m) m p ≡ stated m (body-at bs m p)
     go zero true h = sym (ap (stated m) (body-outside bs m 0 h (inl refl)))
     go zero false h = sym (ap (stated m) (body-unread bs m 0 h))
@@ -71,11 +73,11 @@ entry-stated bs m p = go p (readable bs) refl
         ∙ sym (ap (stated m) (body-unread bs m (suc (suc k)) h))
     go (suc k) true h = ap (λ (xs : List Entry). getD xs k (byteless m (suc k) Outside)) (cond-true (readable bs) all none h) ∙ ⊎-elim
         (λ (l : k < entries bs). getD-map-counting (λ i. placed m (suc i) (axiom-of bs i)) 0 (entries bs) k k (byteless m (suc k) Outside) l (omega arith)
-          ∙ sym (stated-part m (suc k) (start-of bs k) (form-of bs k))
-          ∙ ap (λ (i : ℕ). stated m (part-of m (suc k) (start-of bs i) (form-of bs i))) (less-one k)
-          ∙ sym (ap (stated m) (body-inside bs m (suc k) h (omega arith) l)))
+        ∙ sym (stated-part m (suc k) (start-of bs k) (form-of bs k))
+        ∙ ap (λ (i : ℕ). stated m (part-of m (suc k) (start-of bs i) (form-of bs i))) (less-one k)
+        ∙ sym (ap (stated m) (body-inside bs m (suc k) h (omega arith) l)))
         (λ (l : entries bs ≤ k). getD-past all k (byteless m (suc k) Outside) (omega (arith, length-map-counting (λ i. placed m (suc i) (axiom-of bs i)) 0 (entries bs)))
-          ∙ sym (ap (stated m) (body-outside bs m (suc k) h (inr (omega arith)))))
+        ∙ sym (ap (stated m) (body-outside bs m (suc k) h (inr (omega arith)))))
         (cases-lt k (entries bs))
 
 -- the count of a catalogue that can be read, or 1

@@ -17,14 +17,14 @@ use Rattle.shelf.specs.declared.fault.Cause.the-variants.{Outside}
 
 -- the next part of the list is put in its place
 pub filled-step : (all old front part rest : List ℕ) (k : ℕ) → all ≡ front ++ (part ++ rest) → length front ≡ k
-  → take k (filled all old k) ++ (part ++ drop (k + length part) (filled all old k)) ≡ filled all old (k + length part)
+    → take k (filled all old k) ++ (part ++ drop (k + length part) (filled all old k)) ≡ filled all old (k + length part)
 filled-step all old front part rest k e h =
     let n : ℕ = length part in
     let so-far : filled all old k ≡ front ++ drop k old = ap (λ (xs : List ℕ). xs ++ drop k old) (ap (take k) e ∙ take-at front (part ++ rest) k h) in
     let later : drop (k + n) (front ++ drop k old) ≡ drop (k + n) old =
-          sym (drop-drop n k (front ++ drop k old)) ∙ ap (drop n) (drop-at front (drop k old) k h) ∙ drop-drop n k old in
+    sym (drop-drop n k (front ++ drop k old)) ∙ ap (drop n) (drop-at front (drop k old) k h) ∙ drop-drop n k old in
     let whole : take (k + n) all ≡ front ++ part =
-          ap (take (k + n)) (e ∙ sym (append-assoc front part rest)) ∙ take-at (front ++ part) rest (k + n) (omega (arith, length-append front part)) in
+    ap (take (k + n)) (e ∙ sym (append-assoc front part rest)) ∙ take-at (front ++ part) rest (k + n) (omega (arith, length-append front part)) in
     ap (λ (xs : List ℕ). take k xs ++ (part ++ drop (k + n) xs)) so-far
     ∙ ap (λ (xs : List ℕ). xs ++ (part ++ drop (k + n) (front ++ drop k old))) (take-at front (drop k old) k h)
     ∙ ap (λ (xs : List ℕ). front ++ (part ++ xs)) later

@@ -29,6 +29,23 @@ lines-append at (x ∷ xs) ys =
 abbrev pub offset : List (List ℕ) → ℕ → ℕ
 offset bs i = 2 + 4 * length bs + length (bodies (take i bs))
 
+-- what stands before the contents line i, the line, and what stands behind it
+abbrev pub line-front : List (List ℕ) → ℕ → List ℕ
+line-front bs i = two-bytes (length bs) ++ lines-from (2 + 4 * length bs) (take i bs)
+
+abbrev pub line-part : List (List ℕ) → ℕ → List ℕ
+line-part bs i = two-bytes (offset bs i) ++ two-bytes (length (getD bs i []))
+
+abbrev pub line-rest : List (List ℕ) → ℕ → List ℕ
+line-rest bs i = lines-from (offset bs i + length (getD bs i [])) (drop (i + 1) bs) ++ bodies bs
+
+-- what stands before the body i, and behind it
+abbrev pub body-front : List (List ℕ) → ℕ → List ℕ
+body-front bs i = two-bytes (length bs) ++ (lines-from (2 + 4 * length bs) bs ++ bodies (take i bs))
+
+abbrev pub body-rest : List (List ℕ) → ℕ → List ℕ
+body-rest bs i = bodies (drop (i + 1) bs)
+
 module _ (bs : List (List ℕ)) (i : ℕ) (h : i < length bs) where
   split : bs ≡ take i bs ++ (getD bs i [] ∷ drop (i + 1) bs)
   split = sym (take-append-drop i bs) ∙ ap (λ (zs : List (List ℕ)). take i bs ++ zs) (drop-more bs i [] h)
@@ -44,28 +61,24 @@ module _ (bs : List (List ℕ)) (i : ℕ) (h : i < length bs) where
       counted xs ys = omega (arith, length-append xs (ys ++ []), length-append ys [])
 
   -- the catalogue before a contents line, and from it on
-  pub line-split : laid-out bs ≡ (two-bytes (length bs) ++ lines-from (2 + 4 * length bs) (take i bs)) ++ ((two-bytes (offset bs i) ++ two-bytes (length (getD bs i []))) ++ (lines-from (offset bs i + length (getD bs i [])) (drop (i + 1) bs) ++ bodies bs))
+  pub line-split : laid-out bs ≡ line-front bs i ++ (line-part bs i ++ line-rest bs i)
   line-split =
       ap (λ (zs : List ℕ). two-bytes (length bs) ++ (zs ++ bodies bs))
       (ap (lines-from (2 + 4 * length bs)) split ∙ lines-append (2 + 4 * length bs) (take i bs) (getD bs i [] ∷ drop (i + 1) bs))
       ∙ simp append-assoc
 
   -- the catalogue before a body, and from it on
-  pub body-split : laid-out bs ≡ (two-bytes (length bs) ++ (lines-from (2 + 4 * length bs) bs ++ bodies (take i bs))) ++ (getD bs i [] ++ bodies (drop (i + 1) bs))
+  pub body-split : laid-out bs ≡ body-front bs i ++ (getD bs i [] ++ body-rest bs i)
   body-split =
       ap (λ (zs : List ℕ). two-bytes (length bs) ++ (lines-from (2 + 4 * length bs) bs ++ zs))
       (ap bodies split ∙ bodies-append (take i bs) (getD bs i [] ∷ drop (i + 1) bs))
       ∙ simp append-assoc
 
-  pub line-before : length (two-bytes (length bs) ++ lines-from (2 + 4 * length bs) (take i bs)) ≡ 2 + 4 * i
+  pub line-before : length (line-front bs i) ≡ 2 + 4 * i
   line-before = omega (arith, length-lines (2 + 4 * length bs) (take i bs), length-take-le i bs (omega arith))
 
-  pub body-before : length (two-bytes (length bs) ++ (lines-from (2 + 4 * length bs) bs ++ bodies (take i bs))) ≡ offset bs i
+  pub body-before : length (body-front bs i) ≡ offset bs i
   body-before = omega (arith, length-lines (2 + 4 * length bs) bs, length-append (lines-from (2 + 4 * length bs) bs) (bodies (take i bs)))
-
--- the catalogue begins with its count
-pub count-split : (bs : List (List ℕ)) → laid-out bs ≡ [] ++ (two-bytes (length bs) ++ (lines-from (2 + 4 * length bs) bs ++ bodies bs))
-count-split bs = refl
 
 -- the last offset is the length of the catalogue
 pub offset-end : (bs : List (List ℕ)) (i : ℕ) → length bs ≤ i → offset bs i ≡ length (laid-out bs)
@@ -73,4 +86,4 @@ offset-end bs i h = ap (λ (xs : List (List ℕ)). 2 + 4 * length bs + length (b
 
 -- a body ends within the catalogue
 pub offset-within : (bs : List (List ℕ)) (i : ℕ) (h : i < length bs) → offset bs i + length (getD bs i []) ≤ length (laid-out bs)
-offset-within bs i h = omega (arith, body-before bs i h, ap length (body-split bs i h), length-append (two-bytes (length bs) ++ (lines-from (2 + 4 * length bs) bs ++ bodies (take i bs))) (getD bs i [] ++ bodies (drop (i + 1) bs)), length-append (getD bs i []) (bodies (drop (i + 1) bs)))
+offset-within bs i h = omega (arith, body-before bs i h, ap length (body-split bs i h), length-append (body-front bs i) (getD bs i [] ++ body-rest bs i), length-append (getD bs i []) (body-rest bs i))

@@ -24,13 +24,13 @@ module _ (at before : ℕ) (s : TermSet) (xs : List ℕ) (i : ℕ) where
   pub left-more : i < length xs → before < getD xs i 0 → getD xs i 0 ≤ 64 → read-left at before s (drop i xs) ≡ read-left (suc at) (getD xs i 0) (term-joined s (term-single (getD xs i 0))) (drop (i + 1) xs)
   left-more h l m = at-drop-more (read-left at before s) xs i 0 h
       ∙ cond-true (possible 64 (getD xs i 0) && ltb before (getD xs i 0)) _ _
-        (and-from _ _ (and-from _ _ (le-leb 1 (getD xs i 0) (omega arith)) (le-leb (getD xs i 0) 64 m)) (lt-ltb before (getD xs i 0) l))
+      (and-from _ _ (and-from _ _ (le-leb 1 (getD xs i 0) (omega arith)) (le-leb (getD xs i 0) 64 m)) (lt-ltb before (getD xs i 0) l))
 
   -- any other byte is the fault
   pub left-stuck : i < length xs → (64 < getD xs i 0) ⊎ (getD xs i 0 ≤ before) → read-left at before s (drop i xs) ≡ Err (at-byte Left at)
   left-stuck h e = at-drop-more (read-left at before s) xs i 0 h
       ∙ cond-false (possible 64 (getD xs i 0) && ltb before (getD xs i 0)) _ _
-        (⊎-elim (λ l. and-left _ _ (and-right _ _ (lt-leb (getD xs i 0) 64 l))) (λ l. and-right _ _ (le-ltb before (getD xs i 0) l)) e)
+      (⊎-elim (λ l. and-left _ _ (and-right _ _ (lt-leb (getD xs i 0) 64 l))) (λ l. and-right _ _ (le-ltb before (getD xs i 0) l)) e)
 
   pub left-end : length xs ≤ i → read-left at before s (drop i xs) ≡ Ok s
   left-end h = at-drop-all (read-left at before s) xs i h

@@ -59,6 +59,7 @@ reads-from s (suc fuel) n at before a l e b = go (term-has s n) refl (reads-from
   where
     rest : List ℕ
     rest = kept-by (term-has s) (counting (n + 1) fuel)
+
     go : (x : Bool) → term-has s n ≡ x → (Below s (n + 1) (term-joined a (term-single n)) → read-left (suc at) n (term-joined a (term-single n)) rest ≡ Ok s) → (Below s (n + 1) a → read-left at before a rest ≡ Ok s) → read-left at before a (cond (term-has s n) (n ∷ rest) rest) ≡ Ok s
     go true h taken passed =
         ap (read-left at before a) (cond-true (term-has s n) (n ∷ rest) rest h)
@@ -142,8 +143,9 @@ writes-from s (suc fuel) n at before a (b ∷ bs) lt e ends from h =
   where
     rest : List ℕ
     rest = kept-by (term-has s) (counting (n + 1) fuel)
+
     go : (x : Bool) → eqb b n ≡ x → Begins at before a b bs s → (b ≡ n → Ends (n + 1) (term-joined a (term-single b)) → From (n + 1) bs → read-left (suc at) b (term-joined a (term-single b)) bs ≡ Ok s → rest ≡ bs) → (n + 1 ≤ b → rest ≡ b ∷ bs)
-      → cond (term-has s n) (n ∷ rest) rest ≡ b ∷ bs
+        → cond (term-has s n) (n ∷ rest) rest ≡ b ∷ bs
     go true q w taken passed =
         let here : b ≡ n = eqb-true b n q in
         let has : term-has s n ≡ true = ap (term-has s) (sym here) ∙ keeps bs (suc at) b (term-joined a (term-single b)) s (w .rest) b (omega arith) ∙ joined-here a b (omega (arith, w .above)) (w .within) in

@@ -5,3 +5,5 @@ pub mod LaidOut
 pub mod LeftLists
 pub mod LeftRead
 pub mod Members
+pub mod RoundTrip
+pub mod WrittenAgain

@@ -2,13 +2,14 @@
 use Prim.Native.Nat.{ℕ, zero, suc, _+_, _-_, _*_, _≤_, _<_}
 use mathlib.Core.Bool.{Bool, true, false, _&&_, _||_, cond}
 use mathlib.Core.List.{List, [], _∷_, map}
+use mathlib.Core.Logic.{⊎-elim}
 use mathlib.Core.Path.{_≡_, refl, sym, ap, _∙_}
 use native.Mathlib.Omega.{arith}
 use lib.Dec.{leb, ltb, eqb, lit≤}
 use lib.ListN.{length, getD, drop}
 use Rattle.std.specs.Iters.{counting}
 use Rattle.std.proofs.shelf.Counted.{length-map-counting}
-use Rattle.std.proofs.shelf.Tests.{leb-true, and-parts, and-from, cond-both}
+use Rattle.std.proofs.shelf.Tests.{leb-true, ltb-true, eqb-true, or-cases, and-parts, and-from, cond-both}
 use Rattle.std.specs.declared.result.Result.{Result}
 use Rattle.std.specs.declared.result.Result.the-variants.{Ok, Err}
 use Rattle.std.specs.Options.{okOr}
@@ -40,6 +41,14 @@ readable-whole bs h =
     let whole = and-parts (leb 2 (length bs)) (leb (entries bs) 512 && (leb (2 + 4 * entries bs) (length bs) && (ltb 0 (entries bs) || eqb (length bs) 2))) h in
     let rest = and-parts (leb (entries bs) 512) (leb (2 + 4 * entries bs) (length bs) && (ltb 0 (entries bs) || eqb (length bs) 2)) (whole .1) in
     leb-true (2 + 4 * entries bs) (length bs) (and-parts (leb (2 + 4 * entries bs) (length bs)) (ltb 0 (entries bs) || eqb (length bs) 2) (rest .1) .0)
+
+-- an empty catalogue ends after its count
+pub readable-empty : (bs : List ℕ) → readable bs ≡ true → entries bs ≡ 0 → length bs ≡ 2
+readable-empty bs h e =
+    let whole = and-parts (leb 2 (length bs)) (leb (entries bs) 512 && (leb (2 + 4 * entries bs) (length bs) && (ltb 0 (entries bs) || eqb (length bs) 2))) h in
+    let rest = and-parts (leb (entries bs) 512) (leb (2 + 4 * entries bs) (length bs) && (ltb 0 (entries bs) || eqb (length bs) 2)) (whole .1) in
+    let left = and-parts (leb (2 + 4 * entries bs) (length bs)) (ltb 0 (entries bs) || eqb (length bs) 2) (rest .1) .1 in
+    ⊎-elim (λ p. absurd (omega (arith, ltb-true 0 (entries bs) p))) (λ p. eqb-true (length bs) 2 p) (or-cases (ltb 0 (entries bs)) (eqb (length bs) 2) left)
 
 pub catalogue-short : (bs : List ℕ) (m : ℕ) → length (catalogue-list bs m) ≤ 65535
 catalogue-short bs m = cond-both (readable bs) _ _ (λ (xs : List Entry). length xs ≤ 65535)
@@ -111,6 +120,7 @@ axiom-sound bs m i = placed-sound (axiom-of bs i) (cond-both (line-right bs i) (
     go : (f : Result (Form (List ℕ)) ByteFault) → sound-read f ≡ true → sound-read (and-then f (to-axiom (start-of bs i))) ≡ true
     go (Ok f) h = axiom-keeps (start-of bs i) f h
     go (Err e) h = refl
+
     placed-sound : (r : Result Axiom ByteFault) → sound-read r ≡ true → sound-entry (placed m (suc i) r) ≡ true
     placed-sound (Ok a) h = h
     placed-sound (Err e) h = refl

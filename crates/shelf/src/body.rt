@@ -71,13 +71,19 @@ impl Fields {
     fn in_first(&self) -> ByteFault
         ensures { λ r. ⌜ r ≡ at-byte First (now (self .entry) .at + 1) ⌝ }
     {
-        ByteFault { cause: Cause::First, byte: self.at as usize + 1 }
+        ByteFault {
+            cause: Cause::First,
+            byte: self.at as usize + 1,
+        }
     }
 
     fn in_second(&self) -> ByteFault
         ensures { λ r. ⌜ r ≡ at-byte Second (now (self .entry) .at + 2) ⌝ }
     {
-        ByteFault { cause: Cause::Second, byte: self.at as usize + 2 }
+        ByteFault {
+            cause: Cause::Second,
+            byte: self.at as usize + 2,
+        }
     }
 
     // The first field as 0.
@@ -128,29 +134,54 @@ pub(crate) fn form<'a>(at: u16, body: &'a [u8]) -> Result<Form<&'a [u8]>, ByteFa
     let [kind, first, second, left @ ..] = body else {
         unreachable()
     };
-    let fields = Fields { at, first: *first, second: *second };
+    let fields = Fields {
+        at,
+        first: *first,
+        second: *second,
+    };
     match *kind {
         1 => {
             fields.no_role()?;
-            Ok(Form::Under { left, term: fields.term()? })
+            Ok(Form::Under {
+                left,
+                term: fields.term()?,
+            })
         }
         2 => {
             fields.no_role()?;
             fields.no_term()?;
             Ok(Form::Nothing { left })
         }
-        3 => Ok(Form::Exists { left, role: fields.role()?, filler: fields.filler()? }),
-        4 => Ok(Form::Only { left, role: fields.role()?, term: fields.term()? }),
-        5 => Ok(Form::AtMostOne { left, role: fields.role()?, filler: fields.filler()? }),
+        3 => Ok(Form::Exists {
+            left,
+            role: fields.role()?,
+            filler: fields.filler()?,
+        }),
+        4 => Ok(Form::Only {
+            left,
+            role: fields.role()?,
+            term: fields.term()?,
+        }),
+        5 => Ok(Form::AtMostOne {
+            left,
+            role: fields.role()?,
+            filler: fields.filler()?,
+        }),
         6 => {
             let lower = fields.role()?;
             let upper = fields.upper_role()?;
             if !left.is_empty() {
-                return Err(ByteFault { cause: Cause::Left, byte: at as usize + 3 });
+                return Err(ByteFault {
+                    cause: Cause::Left,
+                    byte: at as usize + 3,
+                });
             }
             Ok(Form::RoleUnder { lower, upper })
         }
-        _ => Err(ByteFault { cause: Cause::Kind, byte: at as usize }),
+        _ => Err(ByteFault {
+            cause: Cause::Kind,
+            byte: at as usize,
+        }),
     }
 }
 
@@ -162,7 +193,10 @@ fn left_terms(at: u16, left: &[u8]) -> Result<TermSet, ByteFault>
     let mut before = 0;
     for (i, byte) in left.iter().enumerate() {
         if *byte > 64 || *byte <= before {
-            return Err(ByteFault { cause: Cause::Left, byte: at as usize + 3 + i });
+            return Err(ByteFault {
+                cause: Cause::Left,
+                byte: at as usize + 3 + i,
+            });
         }
         set = set.union(TermSet::only(Term(*byte)));
         before = *byte;
@@ -174,12 +208,31 @@ fn left_terms(at: u16, left: &[u8]) -> Result<TermSet, ByteFault>
 pub(crate) fn axiom(at: u16, form: Form<&[u8]>) -> Result<Axiom, ByteFault>
     ensures { λ r. ⌜ r ≡ to-axiom at (seen (form .entry)) ⌝ }
 {
-    Ok(match form {
-        Form::Under { left, term } => Form::Under { left: left_terms(at, left)?, term },
-        Form::Nothing { left } => Form::Nothing { left: left_terms(at, left)? },
-        Form::Exists { left, role, filler } => Form::Exists { left: left_terms(at, left)?, role, filler },
-        Form::Only { left, role, term } => Form::Only { left: left_terms(at, left)?, role, term },
-        Form::AtMostOne { left, role, filler } => Form::AtMostOne { left: left_terms(at, left)?, role, filler },
-        Form::RoleUnder { lower, upper } => Form::RoleUnder { lower, upper },
-    })
+    Ok(
+        match form {
+            Form::Under { left, term } => Form::Under {
+                left: left_terms(at, left)?,
+                term,
+            },
+            Form::Nothing { left } => Form::Nothing {
+                left: left_terms(at, left)?,
+            },
+            Form::Exists { left, role, filler } => Form::Exists {
+                left: left_terms(at, left)?,
+                role,
+                filler,
+            },
+            Form::Only { left, role, term } => Form::Only {
+                left: left_terms(at, left)?,
+                role,
+                term,
+            },
+            Form::AtMostOne { left, role, filler } => Form::AtMostOne {
+                left: left_terms(at, left)?,
+                role,
+                filler,
+            },
+            Form::RoleUnder { lower, upper } => Form::RoleUnder { lower, upper },
+        },
+    )
 }

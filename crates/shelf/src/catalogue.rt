@@ -7,13 +7,13 @@ ghost use Rattle.shelf.specs.CatalogueLists.{catalogue-short, catalogue-sound}
 ghost use Rattle.shelf.specs.Handed.{seen, handed, body-at};
 use crate::body;
 use crate::contents;
-use crate::fault::located;
 use crate::fault::ByteFault;
 use crate::fault::Cause;
 use crate::fault::Entry;
 use crate::fault::Origin;
 use crate::fault::ShelfFault;
 use crate::fault::ShelfFaultFromByteFault;
+use crate::fault::located;
 use crate::form::Axiom;
 use crate::form::Form;
 use crate::shelf::Shelf;
@@ -54,13 +54,26 @@ impl<'a> Catalogue<'a> {
     pub fn body(&self, place: u16) -> Result<Body<'a>, ShelfFault>
         ensures { λ r. ⌜ handed r ≡ body-at (now (now (self .entry) .bytes)) (now (self .entry) .mark) place ⌝ }
     {
-        let origin = Origin { mark: self.mark, place };
+        let origin = Origin {
+            mark: self.mark,
+            place,
+        };
         let Some(count) = contents::count(self.bytes) else {
-            let cause = if place == 1 { Cause::Contents } else { Cause::Outside };
+            let cause = if place == 1 {
+                Cause::Contents
+            } else {
+                Cause::Outside
+            };
             return Err(ShelfFault::from((ByteFault { cause, byte: 0 }, origin)));
         };
         if place == 0 || place > count {
-            return Err(ShelfFault::from((ByteFault { cause: Cause::Outside, byte: 0 }, origin)));
+            return Err(ShelfFault::from((
+                ByteFault {
+                    cause: Cause::Outside,
+                    byte: 0,
+                },
+                origin,
+            )));
         }
         let start = contents::start(self.bytes, place - 1);
         match contents::form(self.bytes, count, place - 1) {
@@ -85,6 +98,12 @@ pub impl<'a> Shelf for Catalogue<'a> as CatalogueShelf {
 
     fn entry(&self, place: u16) -> Entry {
         let body = self.body(place)?;
-        located(body.axiom(), Origin { mark: self.mark, place: body.place })
+        located(
+            body.axiom(),
+            Origin {
+                mark: self.mark,
+                place: body.place,
+            },
+        )
     }
 }

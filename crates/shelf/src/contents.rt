@@ -59,7 +59,10 @@ fn line_at(bytes: &[u8], i: u16) -> Line
     ensures size { λ r. ⌜ r .size ≡ size-of (now (bytes .entry)) i ⌝ }
 {
     let at = 2 + 4 * i as usize;
-    Line { start: word(bytes, at), size: word(bytes, at + 2) }
+    Line {
+        start: word(bytes, at),
+        size: word(bytes, at + 2),
+    }
 }
 
 // Where the body i has to start: after the contents, or where the line before points.
@@ -117,7 +120,10 @@ pub(crate) fn form<'a>(bytes: &'a [u8], count: u16, i: u16) -> Result<Form<&'a [
 {
     let line = line_at(bytes, i);
     if !is_right(bytes, count, i, line) {
-        return Err(ByteFault { cause: Cause::Line, byte: 2 + 4 * i as usize });
+        return Err(ByteFault {
+            cause: Cause::Line,
+            byte: 2 + 4 * i as usize,
+        });
     }
     body::form(line.start, named(bytes, line))
 }

@@ -2,28 +2,48 @@
 ghost use mathlib.Core.Path.{_≡_};
 ghost use Rattle.shelf.specs.Axioms.{is-filler, roles-sound, right-sound};
 use numbers::role::DirectedRole;
-use numbers::role::DirectedRolePartialEq;
 use numbers::role::DirectedRoleDebug;
+use numbers::role::DirectedRolePartialEq;
 use numbers::term::Term;
-use numbers::term::TermPartialEq;
 use numbers::term::TermDebug;
+use numbers::term::TermPartialEq;
 use numbers::term_set::TermSet;
 
 // An axiom over a left side of the kind L. A filler is a term, or `None` for everything.
 #[derive(Clone, Copy, PartialEq, Debug)]
 pub enum Form<L> {
     // every thing that carries the left carries the term
-    Under { left: L, term: Term },
+    Under {
+        left: L,
+        term: Term,
+    },
     // no thing carries the left
-    Nothing { left: L },
+    Nothing {
+        left: L,
+    },
     // from every thing that carries the left, the role leads to some thing that carries the filler
-    Exists { left: L, role: DirectedRole, filler: Option<Term> },
+    Exists {
+        left: L,
+        role: DirectedRole,
+        filler: Option<Term>,
+    },
     // from a thing that carries the left, the role leads only to things that carry the term
-    Only { left: L, role: DirectedRole, term: Term },
+    Only {
+        left: L,
+        role: DirectedRole,
+        term: Term,
+    },
     // from a thing that carries the left, the role leads to at most one thing that carries the filler
-    AtMostOne { left: L, role: DirectedRole, filler: Option<Term> },
+    AtMostOne {
+        left: L,
+        role: DirectedRole,
+        filler: Option<Term>,
+    },
     // wherever the lower role leads, the upper one leads too
-    RoleUnder { lower: DirectedRole, upper: DirectedRole },
+    RoleUnder {
+        lower: DirectedRole,
+        upper: DirectedRole,
+    },
 }
 
 // An axiom whose left side is a set of terms.
@@ -46,7 +66,8 @@ impl<L> Form<L> {
     {
         match self {
             Form::Under { .. } | Form::Nothing { .. } => true,
-            Form::Exists { role, .. } | Form::Only { role, .. } | Form::AtMostOne { role, .. } => role.in_range(),
+            Form::Exists { role, .. } | Form::Only { role, .. } | Form::AtMostOne { role, .. } =>
+                role.in_range(),
             Form::RoleUnder { lower, upper } => lower.in_range() && upper.in_range(),
         }
     }
@@ -57,7 +78,9 @@ impl<L> Form<L> {
     {
         match self {
             Form::Under { term, .. } | Form::Only { term, .. } => term.in_range(),
-            Form::Exists { filler, .. } | Form::AtMostOne { filler, .. } => filler_in_range(*filler),
+            Form::Exists { filler, .. } | Form::AtMostOne { filler, .. } => filler_in_range(
+                *filler,
+            ),
             Form::Nothing { .. } | Form::RoleUnder { .. } => true,
         }
     }

@@ -23,7 +23,11 @@ impl<A, B> Joined<A, B> {
         ensures second { λ r. ⌜ r .second ≡ second ⌝ }
         ensures mark { λ r. ⌜ r .mark ≡ mark ⌝ }
     {
-        Joined { first, second, mark }
+        Joined {
+            first,
+            second,
+            mark,
+        }
     }
 }
 
@@ -43,7 +47,13 @@ pub impl<A: Shelf, B: Shelf> Shelf for Joined<A, B> as JoinedShelf {
     fn entry(&self, place: u16) -> Entry {
         let first = self.first.count();
         let total = first as usize + self.second.count() as usize;
-        match beyond(total, Origin { mark: self.mark, place }) {
+        match beyond(
+            total,
+            Origin {
+                mark: self.mark,
+                place,
+            },
+        ) {
             Some(entry) => entry,
             None if place <= first => self.first.entry(place),
             None => self.second.entry(place - first),

@@ -5,10 +5,10 @@ ghost use Prim.Native.Nat.{ℕ, _≤_};
 ghost use lib.ListN.{length};
 ghost use Rattle.std.specs.Options.{Cases};
 ghost use Rattle.shelf.specs.Shelves.{Entry, entry-at, at-most-all};
-use crate::fault::without_byte;
 use crate::fault::Cause;
 use crate::fault::Entry;
 use crate::fault::Origin;
+use crate::fault::without_byte;
 
 // How many entries a shelf has that was made of so many.
 pub fn limited_count(total: usize) -> u16
@@ -23,7 +23,11 @@ pub fn beyond(total: usize, origin: Origin) -> Option<Entry>
         (λ e. (xs : List Entry) → length xs ≡ total → e ≡ entry-at (at-most-all (origin .mark) xs) (origin .mark) (origin .place)) ⌝ }
 {
     if total > 65535 {
-        let cause = if origin.place == 1 { Cause::TooLong } else { Cause::Outside };
+        let cause = if origin.place == 1 {
+            Cause::TooLong
+        } else {
+            Cause::Outside
+        };
         return Some(without_byte(cause, origin));
     }
     if origin.place == 0 {

@@ -3,11 +3,11 @@ ghost use mathlib.Core.Path.{_≡_};
 ghost use denote.Ref.{now};
 ghost use Rattle.shelf.specs.Records.{read-record, records-list};
 ghost use Rattle.shelf.specs.RecordLists.{records-short, records-sound};
-use crate::fault::located;
 use crate::fault::ByteFault;
 use crate::fault::Cause;
 use crate::fault::Entry;
 use crate::fault::Origin;
+use crate::fault::located;
 use crate::form::Axiom;
 use crate::limit::beyond;
 use crate::limit::limited_count;
@@ -34,10 +34,16 @@ fn read(row: &Axiom) -> Result<Axiom, ByteFault>
     ensures { λ r. ⌜ r ≡ read-record (now (row .entry)) ⌝ }
 {
     if !row.roles_in_range() {
-        return Err(ByteFault { cause: Cause::First, byte: 0 });
+        return Err(ByteFault {
+            cause: Cause::First,
+            byte: 0,
+        });
     }
     if !row.right_in_range() {
-        return Err(ByteFault { cause: Cause::Second, byte: 0 });
+        return Err(ByteFault {
+            cause: Cause::Second,
+            byte: 0,
+        });
     }
     Ok(*row)
 }
@@ -56,7 +62,10 @@ pub impl<'a> Shelf for Records<'a> as RecordsShelf {
     }
 
     fn entry(&self, place: u16) -> Entry {
-        let origin = Origin { mark: self.mark, place };
+        let origin = Origin {
+            mark: self.mark,
+            place,
+        };
         match beyond(self.records.len(), origin) {
             Some(entry) => entry,
             None => located(read(&self.records[place as usize - 1]), origin),

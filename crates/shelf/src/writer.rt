@@ -76,12 +76,42 @@ fn parts_of(axiom: Axiom) -> Parts
     ensures { λ r. ⌜ body-bytes «axiom» ≡ r .kind ∷ r .first ∷ r .second ∷ left-bytes (r .left) ⌝ }
 {
     match axiom {
-        Form::Under { left, term } => Parts { kind: 1, first: 0, second: term.0, left },
-        Form::Nothing { left } => Parts { kind: 2, first: 0, second: 0, left },
-        Form::Exists { left, role, filler } => Parts { kind: 3, first: role_byte(role), second: filler_byte(filler), left },
-        Form::Only { left, role, term } => Parts { kind: 4, first: role_byte(role), second: term.0, left },
-        Form::AtMostOne { left, role, filler } => Parts { kind: 5, first: role_byte(role), second: filler_byte(filler), left },
-        Form::RoleUnder { lower, upper } => Parts { kind: 6, first: role_byte(lower), second: role_byte(upper), left: TermSet::empty() },
+        Form::Under { left, term } => Parts {
+            kind: 1,
+            first: 0,
+            second: term.0,
+            left,
+        },
+        Form::Nothing { left } => Parts {
+            kind: 2,
+            first: 0,
+            second: 0,
+            left,
+        },
+        Form::Exists { left, role, filler } => Parts {
+            kind: 3,
+            first: role_byte(role),
+            second: filler_byte(filler),
+            left,
+        },
+        Form::Only { left, role, term } => Parts {
+            kind: 4,
+            first: role_byte(role),
+            second: term.0,
+            left,
+        },
+        Form::AtMostOne { left, role, filler } => Parts {
+            kind: 5,
+            first: role_byte(role),
+            second: filler_byte(filler),
+            left,
+        },
+        Form::RoleUnder { lower, upper } => Parts {
+            kind: 6,
+            first: role_byte(lower),
+            second: role_byte(upper),
+            left: TermSet::empty(),
+        },
     }
 }
 
@@ -131,7 +161,10 @@ fn entry_draft(entry: Entry) -> Draft
 {
     match entry {
         Ok(axiom) => axiom_draft(axiom),
-        Err(_) => Draft { bytes: [0; 67], len: 0 },
+        Err(_) => Draft {
+            bytes: [0; 67],
+            len: 0,
+        },
     }
 }
 
@@ -150,7 +183,12 @@ fn line(start: usize, size: usize) -> [u8; 4]
     requires size { ⌜ size < 2 ^ 16 ⌝ }
     ensures { λ r. ⌜ r ≡ two-bytes start ++ two-bytes size ⌝ }
 {
-    [(start / 256) as u8, (start % 256) as u8, (size / 256) as u8, (size % 256) as u8]
+    [
+        (start / 256) as u8,
+        (start % 256) as u8,
+        (size / 256) as u8,
+        (size % 256) as u8,
+    ]
 }
 
 // Whether no entry is a fault.

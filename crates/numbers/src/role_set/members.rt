@@ -4,10 +4,10 @@ ghost use Rattle.std.specs.Orderings.{Decides};
 ghost use Rattle.numbers.specs.Roles.{turn, role-number};
 ghost use Rattle.numbers.specs.declared.role.DirectedRole.{DirectedRole};
 ghost use Rattle.numbers.specs.RoleSets.{role-has, role-none, role-single, role-covers, role-joined, turned-set};
-use crate::set::NumberSet;
+use super::RoleSet;
 use crate::role::DirectedRole;
 use crate::role::Role;
-use super::RoleSet;
+use crate::set::NumberSet;
 
 // The word in which only the directed role's bit is 1, or 0 where it is no possible member.
 fn mask(role: DirectedRole) -> u32
@@ -54,7 +54,9 @@ pub impl NumberSet for RoleSet as RoleSetMembers {
     }
 
     fn union(self, other: RoleSet) -> RoleSet {
-        RoleSet { bits: self.bits | other.bits }
+        RoleSet {
+            bits: self.bits | other.bits,
+        }
     }
 }
 
@@ -74,6 +76,8 @@ impl RoleSet {
         ensures back { λ r. ⌜ turned-set r ≡ self ⌝ }
         ensures inclusion { λ r. ⌜ ((other : RoleSet) → role-covers r (turned-set other) ≡ role-covers self other) ⌝ }
     {
-        RoleSet { bits: (self.bits >> 16) | (self.bits << 16) }
+        RoleSet {
+            bits: (self.bits >> 16) | (self.bits << 16),
+        }
     }
 }

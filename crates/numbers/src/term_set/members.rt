@@ -2,9 +2,9 @@
 ghost use mathlib.Core.Path.{_≡_};
 ghost use Rattle.std.specs.Orderings.{Decides};
 ghost use Rattle.numbers.specs.TermSets.{term-has, term-number, term-none, term-single, term-covers, term-joined};
+use super::TermSet;
 use crate::set::NumberSet;
 use crate::term::Term;
-use super::TermSet;
 
 // The word in which only the term's bit is 1, or 0 where the term is no possible member.
 fn mask(term: Term) -> u64
@@ -50,7 +50,9 @@ pub impl NumberSet for TermSet as TermSetMembers {
     }
 
     fn union(self, other: TermSet) -> TermSet {
-        TermSet { bits: self.bits | other.bits }
+        TermSet {
+            bits: self.bits | other.bits,
+        }
     }
 }
 

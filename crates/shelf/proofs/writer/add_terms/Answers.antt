@@ -21,16 +21,18 @@ loop-n-again c =
     let inv = c .loop-n .inv in
     let Goal : Draft → Type 0 = λ e. (e .len + 1 ≤ 3 + (n + 1)) × (length (e .bytes) ≡ 67) × (3 ≤ e .len) × (take (e .len) (e .bytes) ≡ front ++ kept-by p (counting 1 (n + 1 - 1))) in
     elim (c .if-contains .came) [
-      then-contains w ↦ subst Goal (sym (w .draft-is))
-        ( omega (arith, inv .0)
-        , length-set (d .bytes) (d .len) n ∙ inv .1
-        , omega (arith, inv .2)
-        , kept-put p n (omega arith) (d .bytes) front (d .len) (inv .3) (omega (arith, inv .0, inv .1, c .loop-n-test .taken)) (sym (c .contains .ensures) ∙ w .if-contains .taken))
-    | else-contains w ↦ subst Goal (sym (w .draft-is))
-        ( omega (arith, inv .0)
-        , inv .1
-        , inv .2
-        , kept-passed p n (omega arith) (d .bytes) front (d .len) (inv .3) (sym (c .contains .ensures) ∙ w .if-contains .left))
+      | then-contains w ↦ subst Goal (sym (w .draft-is)) (
+        omega (arith, inv .0),
+        length-set (d .bytes) (d .len) n ∙ inv .1,
+        omega (arith, inv .2),
+        kept-put p n (omega arith) (d .bytes) front (d .len) (inv .3) (omega (arith, inv .0, inv .1, c .loop-n-test .taken)) (sym (c .contains .ensures) ∙ w .if-contains .taken),
+      )
+      | else-contains w ↦ subst Goal (sym (w .draft-is)) (
+        omega (arith, inv .0),
+        inv .1,
+        inv .2,
+        kept-passed p n (omega arith) (d .bytes) front (d .len) (inv .3) (sym (c .contains .ensures) ∙ w .if-contains .left),
+      )
     ]
 
 pub returns : need.returns

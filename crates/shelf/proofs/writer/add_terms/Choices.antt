@@ -10,4 +10,4 @@ use Rattle.shelf.proofs.writer.add_terms.Given as given
 -- the terms below n have been added
 abbrev pub Inv-loop-n : given.InvT-loop-n
 Inv-loop-n l = (l .draft .len + 1 ≤ 3 + l .n) × (length (l .draft .bytes) ≡ 67) × (3 ≤ l .draft .len)
-  × (take (l .draft .len) (l .draft .bytes) ≡ take 3 (l .entry .draft .bytes) ++ kept-by (term-has (l .left)) (counting 1 (l .n - 1)))
+    × (take (l .draft .len) (l .draft .bytes) ≡ take 3 (l .entry .draft .bytes) ++ kept-by (term-has (l .left)) (counting 1 (l .n - 1)))

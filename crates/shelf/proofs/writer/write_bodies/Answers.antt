@@ -3,8 +3,8 @@ use mathlib.Core.List.{List, [], _++_}
 use mathlib.Core.Path.{_≡_, refl, sym, ap, ap₂, _∙_}
 use native.Mathlib.Omega.{arith}
 use lib.ListN.{length, getD, take, drop, length-map}
-use Rattle.shelf.specs.Writing.{entry-bytes, entry-bodies, catalogue-bytes, filled, two-bytes, lines-from, bodies}
-use Rattle.shelf.proofs.LaidOut.{offset, offset-next, offset-end, offset-within, body-split, body-before}
+use Rattle.shelf.specs.Writing.{entry-bytes, entry-bodies, catalogue-bytes, filled}
+use Rattle.shelf.proofs.LaidOut.{body-front, body-rest, offset-next, offset-end, offset-within, body-split, body-before}
 use Rattle.shelf.proofs.Filling.{filled-step}
 use Rattle.shelf.proofs.writer.write_bodies.Needs as need
 
@@ -35,18 +35,19 @@ loop-i-again g c =
     let i : ℕ = c .loop-i .i in
     let k : ℕ = c .loop-i .at in
     let inv = c .loop-i .inv in
-    let within : i < length bs = omega (arith, length-map es entry-bytes, c .loop-i-test .taken, c .count-count .ensures) in
-    ( omega (arith, inv .0, c .draft-at-draft .ensures .len, offset-next bs i within)
-    , omega (arith, inv .1, c .draft-at-draft .ensures .short)
-    , λ old e.
-        let so-far = filled (catalogue-bytes es) old k in
-        let d = c .draft-at-draft .result in
-        let part = whole (d .len) (d .bytes) ∙ c .draft-at-draft .ensures .bytes in
-        c .put .ensures
-        ∙ ap (λ (b : List ℕ). take k b ++ (take (d .len - 0) (d .bytes) ++ drop (k + length (take (d .len - 0) (d .bytes))) b)) (inv .2 old e)
-        ∙ ap (λ (l : List ℕ). take k so-far ++ (l ++ drop (k + length l) so-far)) part
-        ∙ filled-step (catalogue-bytes es) old (two-bytes (length bs) ++ (lines-from (2 + 4 * length bs) bs ++ bodies (take i bs))) (getD bs i []) (bodies (drop (i + 1) bs)) k (body-split bs i within) (body-before bs i within ∙ sym (inv .0))
-        ∙ ap (λ (n : ℕ). filled (catalogue-bytes es) old (k + n)) (sym (c .draft-at-draft .ensures .len)))
+    let within : i < length bs = omega (arith, length-map es entry-bytes, c .loop-i-test .taken, c .count-count .ensures) in (
+      omega (arith, inv .0, c .draft-at-draft .ensures .len, offset-next bs i within),
+      omega (arith, inv .1, c .draft-at-draft .ensures .short),
+      λ old e.
+          let so-far = filled (catalogue-bytes es) old k in
+          let d = c .draft-at-draft .result in
+          let part = whole (d .len) (d .bytes) ∙ c .draft-at-draft .ensures .bytes in
+          c .put .ensures
+          ∙ ap (λ (b : List ℕ). take k b ++ (take (d .len - 0) (d .bytes) ++ drop (k + length (take (d .len - 0) (d .bytes))) b)) (inv .2 old e)
+          ∙ ap (λ (l : List ℕ). take k so-far ++ (l ++ drop (k + length l) so-far)) part
+          ∙ filled-step (catalogue-bytes es) old (body-front bs i) (getD bs i []) (body-rest bs i) k (body-split bs i within) (body-before bs i within ∙ sym (inv .0))
+          ∙ ap (λ (n : ℕ). filled (catalogue-bytes es) old (k + n)) (sym (c .draft-at-draft .ensures .len)),
+    )
 
 pub returns : need.returns
 returns g c =

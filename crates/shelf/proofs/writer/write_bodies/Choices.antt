@@ -9,5 +9,5 @@ use Rattle.shelf.proofs.writer.write_bodies.Given as given
 -- the bodies of the entries so far are written
 abbrev pub Inv-loop-i : given.InvT-loop-i
 Inv-loop-i g l = let es = g .S·Shelf .list (l .shelf) in
-  (l .at ≡ offset (entry-bodies es) (l .i)) × (l .at ≤ 2 + 4 * l .count + 67 * l .i)
-  × ((old : List ℕ) → l .entry .buffer ≡ filled (catalogue-bytes es) old (2 + 4 * length es) → l .buffer ≡ filled (catalogue-bytes es) old (l .at))
+    (l .at ≡ offset (entry-bodies es) (l .i)) × (l .at ≤ 2 + 4 * l .count + 67 * l .i)
+    × ((old : List ℕ) → l .entry .buffer ≡ filled (catalogue-bytes es) old (2 + 4 * length es) → l .buffer ≡ filled (catalogue-bytes es) old (l .at))

@@ -1,10 +1,10 @@
 use Prim.Native.Nat.{ℕ, _+_, _*_, _≤_, _<_}
-use mathlib.Core.List.{List, [], _++_}
+use mathlib.Core.List.{List, _++_}
 use mathlib.Core.Path.{_≡_, refl, sym, ap, ap₂, _∙_}
 use native.Mathlib.Omega.{arith}
-use lib.ListN.{length, getD, take, drop, length-map}
-use Rattle.shelf.specs.Writing.{entry-bytes, entry-bodies, catalogue-bytes, filled, two-bytes, lines-from, bodies}
-use Rattle.shelf.proofs.LaidOut.{offset, offset-next, line-split, line-before, length-laid}
+use lib.ListN.{length, take, drop, length-map}
+use Rattle.shelf.specs.Writing.{entry-bytes, entry-bodies, catalogue-bytes, filled, two-bytes}
+use Rattle.shelf.proofs.LaidOut.{line-front, line-part, line-rest, offset-next, line-split, line-before, length-laid}
 use Rattle.shelf.proofs.Filling.{filled-step}
 use Rattle.shelf.proofs.writer.write_lines.Needs as need
 
@@ -32,17 +32,17 @@ loop-i-again g c =
     let k : ℕ = 2 + 4 * i in
     let inv = c .loop-i .inv in
     let within : i < length bs = omega (arith, length-map es entry-bytes, c .loop-i-test .taken, c .count-count .ensures) in
-    let part = two-bytes (offset bs i) ++ two-bytes (length (getD bs i [])) in
-    let line-is : c .line .result ≡ part = c .line .ensures ∙ ap₂ (λ (a b : ℕ). two-bytes a ++ two-bytes b) (inv .0) (c .draft-at-size .ensures .len) in
-    ( omega (arith, inv .0, c .draft-at-size .ensures .len, offset-next bs i within)
-    , omega (arith, inv .1, c .draft-at-size .ensures .short)
-    , λ old e.
-        let so-far = filled (catalogue-bytes es) old k in
-        c .put .ensures
-        ∙ ap (λ (b : List ℕ). take k b ++ (c .line .result ++ drop (k + length (c .line .result)) b)) (inv .2 old e)
-        ∙ ap (λ (l : List ℕ). take k so-far ++ (l ++ drop (k + length l) so-far)) line-is
-        ∙ filled-step (catalogue-bytes es) old (two-bytes (length bs) ++ lines-from (2 + 4 * length bs) (take i bs)) part (lines-from (offset bs i + length (getD bs i [])) (drop (i + 1) bs) ++ bodies bs) k (line-split bs i within) (line-before bs i within)
-        ∙ ap (filled (catalogue-bytes es) old) (next i))
+    let line-is : c .line .result ≡ line-part bs i = c .line .ensures ∙ ap₂ (λ (a b : ℕ). two-bytes a ++ two-bytes b) (inv .0) (c .draft-at-size .ensures .len) in (
+      omega (arith, inv .0, c .draft-at-size .ensures .len, offset-next bs i within),
+      omega (arith, inv .1, c .draft-at-size .ensures .short),
+      λ old e.
+          let so-far = filled (catalogue-bytes es) old k in
+          c .put .ensures
+          ∙ ap (λ (b : List ℕ). take k b ++ (c .line .result ++ drop (k + length (c .line .result)) b)) (inv .2 old e)
+          ∙ ap (λ (l : List ℕ). take k so-far ++ (l ++ drop (k + length l) so-far)) line-is
+          ∙ filled-step (catalogue-bytes es) old (line-front bs i) (line-part bs i) (line-rest bs i) k (line-split bs i within) (line-before bs i within)
+          ∙ ap (filled (catalogue-bytes es) old) (next i),
+    )
   where
     next : (i : ℕ) → 2 + 4 * i + 4 ≡ 2 + 4 * (i + 1)
     next i = omega arith

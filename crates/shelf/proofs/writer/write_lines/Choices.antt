@@ -8,5 +8,5 @@ use Rattle.shelf.proofs.writer.write_lines.Given as given
 -- the lines of the entries so far are written
 abbrev pub Inv-loop-i : given.InvT-loop-i
 Inv-loop-i g l = let es = g .S·Shelf .list (l .shelf) in
-  (l .start ≡ offset (entry-bodies es) (l .i)) × (l .start ≤ 2 + 4 * l .count + 67 * l .i)
-  × ((old : List ℕ) → l .entry .buffer ≡ filled (catalogue-bytes es) old 2 → l .buffer ≡ filled (catalogue-bytes es) old (2 + 4 * l .i))
+    (l .start ≡ offset (entry-bodies es) (l .i)) × (l .start ≤ 2 + 4 * l .count + 67 * l .i)
+    × ((old : List ℕ) → l .entry .buffer ≡ filled (catalogue-bytes es) old 2 → l .buffer ≡ filled (catalogue-bytes es) old (2 + 4 * l .i))

@@ -21,10 +21,10 @@ returns-in-rest c =
     let m = c .args .self .now .mark in
     let p = c .args .place in
     let caused : c .if-place-eq1 .cause ≡ cond (eqb p 1) Contents Outside =
-          elim (c .if-place-eq1 .came) [
-            then-place-eq1 w ↦ w .cause-is ∙ sym (cond-true (eqb p 1) Contents Outside (eq-eqb p 1 (w .if-place-eq1 .taken)))
-          | else-place-eq1 w ↦ w .cause-is ∙ sym (cond-false (eqb p 1) Contents Outside (ne-eqb p 1 (w .if-place-eq1 .left)))
-          ] in
+    elim (c .if-place-eq1 .came) [
+      | then-place-eq1 w ↦ w .cause-is ∙ sym (cond-true (eqb p 1) Contents Outside (eq-eqb p 1 (w .if-place-eq1 .taken)))
+      | else-place-eq1 w ↦ w .cause-is ∙ sym (cond-false (eqb p 1) Contents Outside (ne-eqb p 1 (w .if-place-eq1 .left)))
+    ] in
     ap Err (c .from .ensures ∙ ap (λ (x : Cause). in-shelf (at-byte x 0) (origin m p)) caused)
     ∙ sym (body-unread bs m p (counted-none (readable bs) (entries bs) (c .in-rest .ensures tt)))
 
@@ -33,7 +33,7 @@ returns-then-place-eq0 c =
     let bs = c .args .self .now .bytes .now in
     let said = counted-some (readable bs) (c .in-Some .count) (entries bs) (c .in-Some .ensures tt) in
     let out : (c .args .place ≡ 0) ⊎ (entries bs < c .args .place) =
-          elim (c .then-place-eq0 .either) [ inl e ↦ inl e | inr h ↦ inr (omega (arith, h .1, said .1)) ] in
+    elim (c .then-place-eq0 .either) [ inl e ↦ inl e | inr h ↦ inr (omega (arith, h .1, said .1)) ] in
     ap Err (c .from-then-place-eq0 .ensures) ∙ sym (body-outside bs (c .args .self .now .mark) (c .args .place) (said .0) out)
 
 pub returns-in-Err : need.returns-in-Err

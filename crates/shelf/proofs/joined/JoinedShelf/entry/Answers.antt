@@ -22,8 +22,8 @@ returns-in-None g c =
     let given = c .in-None .ensures tt in
     c .entry .ensures
     ∙ sym (at-first (s .mark) (g .A·Shelf .mark (s .first)) (c .args .place) xs ys
-      (omega (arith, length-append xs ys, c .count-first .ensures, c .count .ensures, given .2))
-      (given .0) (omega (arith, c .count-first .ensures, c .if-place-first .taken)))
+    (omega (arith, length-append xs ys, c .count-first .ensures, c .count .ensures, given .2))
+    (given .0) (omega (arith, c .count-first .ensures, c .if-place-first .taken)))
 
 pub returns-in-None-2 : need.returns-in-None-2
 returns-in-None-2 g c =
@@ -35,6 +35,6 @@ returns-in-None-2 g c =
     c .entry-in-None-2 .ensures
     ∙ ap (λ (n : ℕ). entry-at ys second-mark (c .args .place - n)) (c .count-first .ensures)
     ∙ sym (at-second (s .mark) second-mark (c .args .place) xs ys
-      (omega (arith, length-append xs ys, c .count-first .ensures, c .count .ensures, given .2))
-      (omega (arith, c .count-first .ensures, c .if-place-first .left))
-      (omega (arith, c .count-first .ensures, c .count .ensures, given .1)))
+    (omega (arith, length-append xs ys, c .count-first .ensures, c .count .ensures, given .2))
+    (omega (arith, c .count-first .ensures, c .if-place-first .left))
+    (omega (arith, c .count-first .ensures, c .count .ensures, given .1)))

@@ -25,5 +25,5 @@ returns-in-None c =
     let row = c .index-self-place .result in
     c .located .ensures ∙ ap (placed m (c .args .place)) (c .read .ensures)
     ∙ sym (at-place m (c .args .place) k (records-from m 1 all) (omega (arith, given .2)) (omega (arith, given .0))
-      ∙ record-at m 1 all k row (byteless m (suc k) Outside) (omega (arith, given .0, given .1))
-      ∙ ap (λ (p : ℕ). placed m p (read-record (getD all k row))) here)
+    ∙ record-at m 1 all k row (byteless m (suc k) Outside) (omega (arith, given .0, given .1))
+    ∙ ap (λ (p : ℕ). placed m p (read-record (getD all k row))) here)
