@@ -8,7 +8,7 @@ use native.Mathlib.Omega.{arith}
 use lib.Dec.{leb}
 use lib.ListN.{length, getD, take, drop, length-append}
 use Rattle.std.specs.Results.{isErr}
-use Rattle.std.proofs.shelf.Lists.{take-at, drop-at, drop-drop, at-drop-more, at-drop-all, getD-map}
+use Rattle.std.proofs.shelf.Lists.{take-all, take-at, drop-at, drop-drop, at-drop-more, at-drop-all, getD-map}
 use Rattle.std.proofs.shelf.Tests.{and-parts, true≢false, false≢true, cond-true, le-leb}
 use Rattle.std.specs.declared.result.Result.the-variants.{Ok, Err}
 use Rattle.shelf.specs.Shelves.{Entry, entry-at, byteless, sound-entry, all-sound}
@@ -68,3 +68,7 @@ faultless-end es i h = at-drop-all faultless es i h
 -- a list that can be written, into a buffer that is long enough
 pub answer-ok : (es : List Entry) (room : ℕ) → writable es ≡ true → length (catalogue-bytes es) ≤ room → write-answer es room ≡ Ok (length (catalogue-bytes es))
 answer-ok es room h l = cond-true (writable es) _ _ h ∙ cond-true (leb (length (catalogue-bytes es)) room) _ _ (le-leb _ room l)
+
+-- the first part of a filled buffer is what it was filled with
+pub filled-front : (all old buffer : List ℕ) (n : ℕ) → buffer ≡ filled all old n → length all ≡ n → take n buffer ≡ all
+filled-front all old buffer n e h = ap (take n) (e ∙ ap (λ (xs : List ℕ). xs ++ drop n old) (take-all n all (omega arith))) ∙ take-at all (drop n old) n h

@@ -18,7 +18,7 @@ use Rattle.std.specs.declared.result.Result.{Result}
 use Rattle.std.specs.declared.result.Result.the-variants.{Ok, Err}
 use Rattle.shelf.specs.Axioms.{Axiom}
 use Rattle.shelf.specs.Bodies.{and-then, read-form, to-axiom}
-use Rattle.shelf.specs.Catalogues.{word-at, entries, readable, line-byte, start-of, size-of, due-start, line-right, body-of, form-of, axiom-of, catalogue-list}
+use Rattle.shelf.specs.Catalogues.{Bytes, word-at, entries, readable, line-byte, start-of, size-of, due-start, line-right, body-of, form-of, axiom-of, catalogue-list}
 use Rattle.shelf.specs.Faults.{at-byte}
 use Rattle.shelf.specs.Shelves.{Entry, placed}
 use Rattle.shelf.specs.Writing.{two-bytes, body-bytes, entry-bytes, entry-bodies, lines-from, bodies, laid-out, catalogue-bytes, faultless}
@@ -61,7 +61,7 @@ two-again a b h = ap₂ (λ (x y : ℕ). x ∷ y ∷ []) (high a b h) (low a b h
     low : (a b : ℕ) → b < 256 → (256 * a + b) % 256 ≡ b
     low a b h = omega arith
 
-module _ (bytes : List ℕ) (small : (k : ℕ) → getD bytes k 0 < 256) where
+module _ (bytes : List ℕ) (small : Bytes bytes) where
   -- two bytes are the two-byte number that they hold
   two-drop : (k : ℕ) → k + 2 ≤ length bytes → drop k bytes ≡ two-bytes (word-at bytes k) ++ drop (k + 2) bytes
   two-drop k h =
@@ -152,7 +152,7 @@ faultless-readable bytes m f = go (readable bytes) refl
     go false e = absurd (false≢true (ap faultless (sym (cond-false (readable bytes) _ _ e)) ∙ f))
 
 -- the bytes of a faultless catalogue are written again the same
-pub written-again : (bytes : List ℕ) (m : ℕ) → ((k : ℕ) → getD bytes k 0 < 256) → faultless (catalogue-list bytes m) ≡ true → catalogue-bytes (catalogue-list bytes m) ≡ bytes
+pub written-again : (bytes : List ℕ) (m : ℕ) → Bytes bytes → faultless (catalogue-list bytes m) ≡ true → catalogue-bytes (catalogue-list bytes m) ≡ bytes
 written-again bytes m small f = laid-again bytes small read (entry-bodies es) (length-map es entry-bytes ∙ counted) (λ i h. here i h .0) (λ i h. here i h .1)
   where
     es : List Entry

@@ -50,10 +50,14 @@ readable-empty bs h e =
     let left = and-parts (leb (2 + 4 * entries bs) (length bs)) (ltb 0 (entries bs) || eqb (length bs) 2) (rest .1) .1 in
     ⊎-elim (λ p. absurd (omega (arith, ltb-true 0 (entries bs) p))) (λ p. eqb-true (length bs) 2 p) (or-cases (ltb 0 (entries bs)) (eqb (length bs) 2) left)
 
-pub catalogue-short : (bs : List ℕ) (m : ℕ) → length (catalogue-list bs m) ≤ 65535
-catalogue-short bs m = cond-both (readable bs) _ _ (λ (xs : List Entry). length xs ≤ 65535)
+-- a catalogue has at most 512 entries
+pub catalogue-few : (bs : List ℕ) (m : ℕ) → length (catalogue-list bs m) ≤ 512
+catalogue-few bs m = cond-both (readable bs) _ _ (λ (xs : List Entry). length xs ≤ 512)
     (λ h. omega (arith, readable-count bs h, length-map-counting (λ i. placed m (suc i) (axiom-of bs i)) 0 (entries bs)))
     (λ _. lit≤ tt)
+
+pub catalogue-short : (bs : List ℕ) (m : ℕ) → length (catalogue-list bs m) ≤ 65535
+catalogue-short bs m = omega (arith, catalogue-few bs m)
 
 -- what is read is well formed
 abbrev sound-read : {L : Type 0} → Result (Form L) ByteFault → Bool

@@ -1,5 +1,5 @@
 -- A catalogue: the bytes in which a list of axioms is stored. Assumes nothing.
-use Prim.Native.Nat.{ℕ, zero, suc, _+_, _*_}
+use Prim.Native.Nat.{ℕ, zero, suc, _+_, _*_, _<_}
 use mathlib.Core.Bool.{Bool, _&&_, _||_, cond}
 use mathlib.Core.List.{List, [], _∷_, map}
 use denote.Ref.{RefT, now}
@@ -15,6 +15,10 @@ use Rattle.shelf.specs.Shelves.{Entry, placed}
 use Rattle.shelf.specs.declared.fault.ByteFault.{ByteFault}
 use Rattle.shelf.specs.declared.fault.Cause.the-variants.{Contents, Line}
 use Rattle.shelf.specs.declared.form.Form.{Form}
+
+-- a list of bytes
+abbrev pub Bytes : List ℕ → Type 0
+Bytes bs = (k : ℕ) → getD bs k 0 < 256
 
 -- the two-byte number at the byte i, high byte first
 abbrev pub word-at : List ℕ → ℕ → ℕ

@@ -87,6 +87,10 @@ faultless (Err f ∷ es) = false
 abbrev pub writable : List Entry → Bool
 writable es = leb (length es) 512 && faultless es
 
+-- the number of the refusal that a list meets: it cannot be written, or else the buffer was too short
+abbrev pub refusal-due : List Entry → ℕ
+refusal-due es = cond (writable es) 11 10
+
 -- a buffer whose first k bytes are those of another list, and whose later bytes are as they were
 abbrev pub filled : List ℕ → List ℕ → ℕ → List ℕ
 filled bs buffer k = take k bs ++ drop k buffer

@@ -2,6 +2,7 @@
 mod body;
 pub mod catalogue;
 mod contents;
+mod draft;
 pub mod fault;
 pub mod form;
 pub mod joined;

@@ -3,21 +3,12 @@ ghost use mathlib.Core.Path.{_≡_};
 ghost use mathlib.Core.List.{List, [], _∷_, _++_};
 ghost use Prim.Native.Nat.{ℕ, _+_, _*_, _^_, _≤_, _<_};
 ghost use lib.ListN.{length, getD, take, drop};
-ghost use mathlib.Core.Bool.{true};
-ghost use Rattle.numbers.specs.Roles.{is-role};
-ghost use Rattle.shelf.specs.Axioms.{sound};
-ghost use Rattle.shelf.specs.Shelves.{sound-entry};
-ghost use Rattle.shelf.specs.Writing.{refusal-number, two-bytes, role-byte, filler-byte, left-bytes, body-bytes, entry-bytes, entry-bodies, catalogue-bytes, faultless, filled, write-answer, write-buffer};
-use crate::fault::Entry;
-use crate::form::Axiom;
-use crate::form::Form;
+ghost use Rattle.std.specs.Vec.{made, refused};
+ghost use Rattle.shelf.specs.Catalogues.{Bytes, catalogue-list};
+ghost use Rattle.shelf.specs.Writing.{refusal-number, two-bytes, entry-bodies, catalogue-bytes, faultless, filled, refusal-due, write-answer, write-buffer};
+use crate::draft::Draft;
+use crate::draft::entry_draft;
 use crate::shelf::Shelf;
-use numbers::role::DirectedRole;
-use numbers::role::Role;
-use numbers::set::NumberSet;
-use numbers::term::Term;
-use numbers::term_set::TermSet;
-use numbers::term_set::TermSetMembers;
 
 // Why a shelf is not written.
 #[derive(Clone, Copy, PartialEq, Eq, Debug)]
@@ -37,134 +28,6 @@ impl WriteRefusal {
             WriteRefusal::Unwritable => 10,
             WriteRefusal::TooShort => 11,
         }
-    }
-}
-
-// A role as a byte.
-fn role_byte(role: DirectedRole) -> u8
-    requires { ⌜ is-role role ≡ true ⌝ }
-    ensures { λ r. ⌜ r ≡ role-byte role ⌝ }
-{
-    match role {
-        DirectedRole::Forward(Role(n)) => n,
-        DirectedRole::Backward(Role(n)) => 128 + n,
-    }
-}
-
-// A filler as a byte, 0 for everything.
-fn filler_byte(filler: Option<Term>) -> u8
-    ensures { λ r. ⌜ r ≡ filler-byte filler ⌝ }
-{
-    match filler {
-        None => 0,
-        Some(Term(n)) => n,
-    }
-}
-
-// The parts of a body: the kind, the two fields, and the set of the left list.
-#[derive(Clone, Copy)]
-struct Parts {
-    kind: u8,
-    first: u8,
-    second: u8,
-    left: TermSet,
-}
-
-// The parts of an axiom's body.
-fn parts_of(axiom: Axiom) -> Parts
-    requires { ⌜ sound «axiom» ≡ true ⌝ }
-    ensures { λ r. ⌜ body-bytes «axiom» ≡ r .kind ∷ r .first ∷ r .second ∷ left-bytes (r .left) ⌝ }
-{
-    match axiom {
-        Form::Under { left, term } => Parts {
-            kind: 1,
-            first: 0,
-            second: term.0,
-            left,
-        },
-        Form::Nothing { left } => Parts {
-            kind: 2,
-            first: 0,
-            second: 0,
-            left,
-        },
-        Form::Exists { left, role, filler } => Parts {
-            kind: 3,
-            first: role_byte(role),
-            second: filler_byte(filler),
-            left,
-        },
-        Form::Only { left, role, term } => Parts {
-            kind: 4,
-            first: role_byte(role),
-            second: term.0,
-            left,
-        },
-        Form::AtMostOne { left, role, filler } => Parts {
-            kind: 5,
-            first: role_byte(role),
-            second: filler_byte(filler),
-            left,
-        },
-        Form::RoleUnder { lower, upper } => Parts {
-            kind: 6,
-            first: role_byte(lower),
-            second: role_byte(upper),
-            left: TermSet::empty(),
-        },
-    }
-}
-
-// A body before it is written: the first `len` of the bytes.
-#[derive(Clone, Copy)]
-struct Draft {
-    bytes: [u8; 67],
-    len: usize,
-}
-
-// Adds the terms of a set to a body, rising.
-fn add_terms(draft: &mut Draft, left: TermSet)
-    requires { ⌜ now draft .len ≡ 3 ⌝ }
-    ensures bytes { λ _. ⌜ take (now (draft .exit) .len) (now (draft .exit) .bytes) ≡ take 3 (now (draft .entry) .bytes) ++ left-bytes left ⌝ }
-    ensures len { λ _. ⌜ now (draft .exit) .len ≤ 67 ⌝ }
-{
-    for n in 1..=64u8 {
-        if left.contains(Term(n)) {
-            draft.bytes[draft.len] = n;
-            draft.len += 1;
-        }
-    }
-}
-
-// The body of an axiom.
-fn axiom_draft(axiom: Axiom) -> Draft
-    requires { ⌜ sound «axiom» ≡ true ⌝ }
-    ensures bytes { λ r. ⌜ take (r .len) (r .bytes) ≡ body-bytes «axiom» ⌝ }
-    ensures len { λ r. ⌜ r .len ≤ 67 ⌝ }
-{
-    let parts = parts_of(axiom);
-    let mut bytes = [0; 67];
-    bytes[0] = parts.kind;
-    bytes[1] = parts.first;
-    bytes[2] = parts.second;
-    let mut draft = Draft { bytes, len: 3 };
-    add_terms(&mut draft, parts.left);
-    draft
-}
-
-// The body of an entry; a fault has none.
-fn entry_draft(entry: Entry) -> Draft
-    requires { ⌜ sound-entry «entry» ≡ true ⌝ }
-    ensures bytes { λ r. ⌜ take (r .len) (r .bytes) ≡ entry-bytes «entry» ⌝ }
-    ensures len { λ r. ⌜ r .len ≡ length (entry-bytes «entry») ⌝ }
-    ensures short { λ r. ⌜ r .len ≤ 67 ⌝ }
-{
-    match entry {
-        Ok(axiom) => axiom_draft(axiom),
-        Err(_) => Draft {
-            bytes: [0; 67],
-            len: 0,
-        },
     }
 }
 
@@ -260,6 +123,9 @@ fn write_bodies<S: Shelf>(shelf: &S, buffer: &mut [u8])
 pub fn write<S: Shelf>(shelf: &S, buffer: &mut [u8]) -> Result<usize, WriteRefusal>
     ensures value { λ r. ⌜ r ≡ write-answer (S·Shelf .list (now (shelf .entry))) (length (now (buffer .entry))) ⌝ }
     ensures buffer { λ r. ⌜ now (buffer .exit) ≡ write-buffer (S·Shelf .list (now (shelf .entry))) (now (buffer .entry)) r ⌝ }
+    ensures refusal { λ r. ⌜ refused r (λ e. refusal-number e ≡ refusal-due (S·Shelf .list (now (shelf .entry)))) ⌝ }
+    ensures back { λ r. ⌜ made r (λ n. (m : ℕ) → catalogue-list (take n (now (buffer .exit))) m ≡ S·Shelf .list (now (shelf .entry))) ⌝ }
+    ensures again { λ r. ⌜ made r (λ n. (bytes : List ℕ) (m : ℕ) → Bytes bytes → catalogue-list bytes m ≡ S·Shelf .list (now (shelf .entry)) → take n (now (buffer .exit)) ≡ bytes) ⌝ }
 {
     let count = shelf.count();
     if count > 512 || !is_faultless(shelf) {

@@ -5,7 +5,7 @@ use lib.ListN.{length, take}
 use Rattle.std.specs.Iters.{counting}
 use Rattle.std.specs.shelf.Lists.{kept-by}
 use Rattle.numbers.specs.TermSets.{term-has}
-use Rattle.shelf.proofs.writer.add_terms.Given as given
+use Rattle.shelf.proofs.draft.add_terms.Given as given
 
 -- the terms below n have been added
 abbrev pub Inv-loop-n : given.InvT-loop-n

@@ -7,10 +7,10 @@ use Rattle.std.specs.Iters.{counting}
 use Rattle.std.specs.shelf.Lists.{kept-by}
 use Rattle.numbers.specs.TermSets.{term-has}
 use Rattle.shelf.specs.Writing.{left-bytes}
-use Rattle.shelf.specs.declared.writer.Draft.{Draft}
+use Rattle.shelf.specs.declared.draft.Draft.{Draft}
 use Rattle.shelf.proofs.Members.{all-members, kept-put, kept-passed}
-use Rattle.shelf.proofs.writer.add_terms.Needs as need
-use Rattle.shelf.proofs.writer.add_terms.Needs.{then-contains, else-contains}
+use Rattle.shelf.proofs.draft.add_terms.Needs as need
+use Rattle.shelf.proofs.draft.add_terms.Needs.{then-contains, else-contains}
 
 pub loop-n-again : need.loop-n-again
 loop-n-again c =

@@ -4,7 +4,7 @@ use mathlib.Core.Path.{_≡_, sym, ap, ap₂, _∙_}
 use Rattle.numbers.specs.declared.term_set.TermSet.{TermSet}
 use Rattle.shelf.specs.Writing.{left-bytes, role-byte, body-bytes}
 use Rattle.shelf.proofs.Members.{none-bytes}
-use Rattle.shelf.proofs.writer.parts_of.Needs as need
+use Rattle.shelf.proofs.draft.parts_of.Needs as need
 
 pub returns-in-RoleUnder : need.returns-in-RoleUnder
 returns-in-RoleUnder c =

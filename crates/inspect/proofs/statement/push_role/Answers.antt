@@ -1,0 +1,9 @@
+use borrow.Author.Needs.{needs}
+use mathlib.Core.List.{append-assoc}
+use Rattle.inspect.proofs.statement.push_role.Needs as need
+
+pub returns-in-Continue-push-str : need.returns-in-Continue-push-str
+returns-in-Continue-push-str c = search (needs, append-assoc)
+
+pub returns-in-Continue-push-str-2 : need.returns-in-Continue-push-str-2
+returns-in-Continue-push-str-2 c = search (needs, append-assoc)
