@@ -5,7 +5,8 @@ use mathlib.Core.Logic.{⊎-elim}
 use mathlib.Core.Path.{_≡_, refl, sym, ap, subst, _∙_}
 use native.Mathlib.Omega.{arith}
 use native.Mathlib.Numerals.{add-one}
-use lib.Bits.{bitOr, shifted-half, shifted-even}
+use native.Mathlib.Nat.{mod-eq-of-lt}
+use lib.Bits.{bitOr, or-lt, shifted-half, shifted-even}
 use lib.Dec.{eqb, leb}
 use Rattle.std.specs.Orderings.{Decides}
 use Rattle.std.proofs.shelf.Bits.{shr-shr, shl-shr, mod-pow-add}
@@ -13,7 +14,7 @@ use Rattle.std.proofs.shelf.Tests.{true≢false, cases-lt, cases-bool, cond-tru
 use Rattle.std.proofs.shelf.Ways.{same-from-decides, decides-like, tells}
 use Rattle.numbers.specs.Bits.{bit, possible, word-has, word-covers}
 use Rattle.numbers.specs.Roles.{role-number, turn}
-use Rattle.numbers.specs.RoleSets.{role-has, role-covers, turned-set, turned-small, word-turned}
+use Rattle.numbers.specs.RoleSets.{role-has, role-covers, turned-set, word-turned}
 use Rattle.numbers.specs.declared.role.Role.{Role}
 use Rattle.numbers.specs.declared.role.DirectedRole.{DirectedRole}
 use Rattle.numbers.specs.declared.role.DirectedRole.the-variants.{Forward, Backward}
@@ -21,6 +22,9 @@ use Rattle.numbers.specs.declared.role_set.RoleSet.{RoleSet}
 use Rattle.numbers.proofs.Digits.{bit-or, bit-half, bit-first, bit-past}
 use Rattle.numbers.proofs.Words.{words-same, covers-includes}
 use Rattle.numbers.proofs.SetsLawful.{same-roles}
+
+turned-small : (x : ℕ) → x < 2 ^ 32 → word-turned x < 2 ^ 32
+turned-small x h = or-lt 32 (x / 2 ^ 16) ((x * 2 ^ 16) % 2 ^ 32) (omega arith) (omega arith)
 
 -- the digits below a shift are 0
 bit-low : (y m k : ℕ) → k < m → bit (y * 2 ^ m) k ≡ false
@@ -67,33 +71,40 @@ digit x k = bit-or (x / 2 ^ 16) ((x * 2 ^ 16) % 2 ^ 32) k ∙ ap (λ (n : ℕ). 
 has-turned : (x n : ℕ) → x < 2 ^ 32 → word-has (word-turned x) n ≡ word-has x (turned-number n)
 has-turned x zero h = refl
 has-turned x (suc k) h = ⊎-elim
-    (λ (l : k < 16). digit x k ∙ or-false _ _ _ refl (bit-mod (x * 2 ^ 16) 32 k (omega arith) ∙ bit-low x 16 k l) ∙ ap (word-has x) (number-is (suc (16 + k)) (grind (arith, tells))))
+    (λ (l : k < 16). digit x k ∙ or-false _ _ _ refl (bit-mod (x * 2 ^ 16) 32 k (omega arith) ∙ bit-low x 16 k l) ∙ ap (word-has x) (low k l))
     (λ (l : 16 ≤ k). ⊎-elim
-    (λ (m : k < 32). digit x k ∙ or-other _ _ _ (bit-past x 32 (16 + k) h (omega arith)) (bit-mod (x * 2 ^ 16) 32 k m ∙ shifted l) ∙ ap (word-has x) (number-is (suc (k - 16)) (grind (arith, tells))))
-    (λ (m : 32 ≤ k). bit-past (word-turned x) 32 k (turned-small x h) m ∙ sym (bit-past x 32 k h m) ∙ ap (word-has x) (number-is (suc k) (grind (arith, tells))))
+    (λ (m : k < 32). digit x k ∙ or-other _ _ _ (bit-past x 32 (16 + k) h (omega arith)) (bit-mod (x * 2 ^ 16) 32 k m ∙ shifted l) ∙ ap (word-has x) (high k l m))
+    (λ (m : 32 ≤ k). bit-past (word-turned x) 32 k (turned-small x h) m ∙ sym (bit-past x 32 k h m) ∙ ap (word-has x) (past k m))
     (cases-lt k 32))
     (cases-lt k 16)
   where
-    number-is : (m : ℕ) → m ≡ turned-number (suc k) → m ≡ turned-number (suc k)
-    number-is m e = e
+    low : (k : ℕ) → k < 16 → suc (16 + k) ≡ turned-number (suc k)
+    low k l = grind (arith, tells)
+
+    high : (k : ℕ) → 16 ≤ k → k < 32 → suc (k - 16) ≡ turned-number (suc k)
+    high k l m = grind (arith, tells)
+
+    past : (k : ℕ) → 32 ≤ k → suc k ≡ turned-number (suc k)
+    past k m = grind (arith, tells)
 
     shifted : 16 ≤ k → bit (x * 2 ^ 16) k ≡ bit x (k - 16)
     shifted l = ap (bit (x * 2 ^ 16)) (omega arith) ∙ bit-high x 16 (k - 16)
 
+-- the members of a turned set
+set-turned : (s : RoleSet) (n : ℕ) → role-has (turned-set s) n ≡ role-has s (turned-number n)
+set-turned s n = ap (λ (x : ℕ). word-has x n) (mod-eq-of-lt (turned-small (s .bits) (s .small))) ∙ has-turned (s .bits) n (s .small)
+
 pub turned-members : (s : RoleSet) (d : DirectedRole) → role-has (turned-set s) (role-number d) ≡ role-has s (role-number (turn d))
-turned-members s d = has-turned (s .bits) (role-number d) (s .small) ∙ ap (word-has (s .bits)) (turned-of d)
+turned-members s d = set-turned s (role-number d) ∙ ap (role-has s) (turned-of d)
 
 pub turned-back : (s : RoleSet) → turned-set (turned-set s) ≡ s
 turned-back s = same-roles _ _ (words-same 32 _ _ (turned-set (turned-set s) .small) (s .small)
-    (λ n. has-turned (word-turned (s .bits)) n (turned-set s .small) ∙ has-turned (s .bits) (turned-number n) (s .small) ∙ ap (word-has (s .bits)) (turned-twice n)))
+    (λ n. set-turned (turned-set s) n ∙ set-turned s (turned-number n) ∙ ap (role-has s) (turned-twice n)))
 
 pub turned-covers : (a b : RoleSet) → role-covers (turned-set a) (turned-set b) ≡ role-covers a b
 turned-covers a b = same-from-decides _ _
     (decides-like (role-covers (turned-set a) (turned-set b))
-    (λ f n e. back a n (f (turned-number n) (has-turned (b .bits) (turned-number n) (b .small) ∙ ap (word-has (b .bits)) (turned-twice n) ∙ e)))
-    (λ f n e. has-turned (a .bits) n (a .small) ∙ f (turned-number n) (sym (has-turned (b .bits) n (b .small)) ∙ e))
+    (λ f n e. ap (role-has a) (sym (turned-twice n)) ∙ sym (set-turned a (turned-number n)) ∙ f (turned-number n) (set-turned b (turned-number n) ∙ ap (role-has b) (turned-twice n) ∙ e))
+    (λ f n e. set-turned a n ∙ f (turned-number n) (sym (set-turned b n) ∙ e))
     (covers-includes 32 _ _ (turned-set a .small) (turned-set b .small)))
     (covers-includes 32 (a .bits) (b .bits) (a .small) (b .small))
-  where
-    back : (s : RoleSet) (n : ℕ) → role-has (turned-set s) (turned-number n) ≡ true → role-has s n ≡ true
-    back s n e = ap (word-has (s .bits)) (sym (turned-twice n)) ∙ sym (has-turned (s .bits) (turned-number n) (s .small)) ∙ e

@@ -1,9 +1,10 @@
 // What a role set has as members, by operations on its word.
 ghost use mathlib.Core.Path.{_≡_};
 ghost use Rattle.std.specs.Orderings.{Decides};
+ghost use Rattle.numbers.specs.Bits.{word-single};
 ghost use Rattle.numbers.specs.Roles.{turn, role-number};
 ghost use Rattle.numbers.specs.declared.role.DirectedRole.{DirectedRole};
-ghost use Rattle.numbers.specs.RoleSets.{role-has, role-none, role-single, role-covers, role-joined, turned-set};
+ghost use Rattle.numbers.specs.RoleSets.{role-word, role-has, role-none, role-single, role-covers, role-joined, turned-set};
 use super::RoleSet;
 use crate::role::DirectedRole;
 use crate::role::Role;
@@ -11,13 +12,20 @@ use crate::set::NumberSet;
 
 // The word in which only the directed role's bit is 1, or 0 where it is no possible member.
 fn mask(role: DirectedRole) -> u32
-    ensures { λ r. ⌜ r ≡ role-single (role-number role) .bits ⌝ }
+    ensures { λ r. ⌜ r ≡ word-single 32 (role-number role) ⌝ }
 {
     match role {
         DirectedRole::Forward(Role(n)) if n >= 1 && n <= 16 => 1 << (n - 1),
         DirectedRole::Backward(Role(n)) if n >= 1 && n <= 16 => 1 << (n + 15),
         _ => 0,
     }
+}
+
+// The set that a word stands for.
+fn of_word(bits: u32) -> RoleSet
+    ensures { λ r. ⌜ r ≡ role-word bits ⌝ }
+{
+    RoleSet { bits }
 }
 
 pub impl NumberSet for RoleSet as RoleSetMembers {
@@ -38,11 +46,11 @@ pub impl NumberSet for RoleSet as RoleSetMembers {
     ghost joined = { role-joined };
 
     fn empty() -> RoleSet {
-        RoleSet { bits: 0 }
+        of_word(0)
     }
 
     fn only(item: DirectedRole) -> RoleSet {
-        RoleSet { bits: mask(item) }
+        of_word(mask(item))
     }
 
     fn contains(self, item: DirectedRole) -> bool {
@@ -54,9 +62,7 @@ pub impl NumberSet for RoleSet as RoleSetMembers {
     }
 
     fn union(self, other: RoleSet) -> RoleSet {
-        RoleSet {
-            bits: self.bits | other.bits,
-        }
+        of_word(self.bits | other.bits)
     }
 }
 
@@ -76,8 +82,6 @@ impl RoleSet {
         ensures back { λ r. ⌜ turned-set r ≡ self ⌝ }
         ensures inclusion { λ r. ⌜ ((other : RoleSet) → role-covers r (turned-set other) ≡ role-covers self other) ⌝ }
     {
-        RoleSet {
-            bits: (self.bits >> 16) | (self.bits << 16),
-        }
+        of_word((self.bits >> 16) | (self.bits << 16))
     }
 }

@@ -1,19 +1,27 @@
 // What a term set has as members, by operations on its word.
 ghost use mathlib.Core.Path.{_≡_};
 ghost use Rattle.std.specs.Orderings.{Decides};
-ghost use Rattle.numbers.specs.TermSets.{term-has, term-number, term-none, term-single, term-covers, term-joined};
+ghost use Rattle.numbers.specs.Bits.{word-single};
+ghost use Rattle.numbers.specs.TermSets.{term-word, term-has, term-number, term-none, term-single, term-covers, term-joined};
 use super::TermSet;
 use crate::set::NumberSet;
 use crate::term::Term;
 
 // The word in which only the term's bit is 1, or 0 where the term is no possible member.
 fn mask(term: Term) -> u64
-    ensures { λ r. ⌜ r ≡ term-single (term-number term) .bits ⌝ }
+    ensures { λ r. ⌜ r ≡ word-single 64 (term-number term) ⌝ }
 {
     match term.0 {
         1..=64 => 1 << (term.0 - 1),
         _ => 0,
     }
+}
+
+// The set that a word stands for.
+fn of_word(bits: u64) -> TermSet
+    ensures { λ r. ⌜ r ≡ term-word bits ⌝ }
+{
+    TermSet { bits }
 }
 
 pub impl NumberSet for TermSet as TermSetMembers {
@@ -34,11 +42,11 @@ pub impl NumberSet for TermSet as TermSetMembers {
     ghost joined = { term-joined };
 
     fn empty() -> TermSet {
-        TermSet { bits: 0 }
+        of_word(0)
     }
 
     fn only(item: Term) -> TermSet {
-        TermSet { bits: mask(item) }
+        of_word(mask(item))
     }
 
     fn contains(self, item: Term) -> bool {
@@ -50,9 +58,7 @@ pub impl NumberSet for TermSet as TermSetMembers {
     }
 
     fn union(self, other: TermSet) -> TermSet {
-        TermSet {
-            bits: self.bits | other.bits,
-        }
+        of_word(self.bits | other.bits)
     }
 }
 

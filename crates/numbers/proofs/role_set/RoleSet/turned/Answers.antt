@@ -1,18 +1,16 @@
-use mathlib.Core.Path.{refl, sym, ap, _∙_}
-use Rattle.numbers.specs.RoleSets.{role-has, role-covers, turned-set, turned-small}
-use Rattle.numbers.specs.Roles.{role-number, turn}
+use mathlib.Core.Path.{sym, ap, _∙_}
+use Rattle.numbers.specs.Roles.{role-number}
+use Rattle.numbers.specs.RoleSets.{role-has, role-covers, turned-set}
 use Rattle.numbers.specs.declared.role_set.RoleSet.{RoleSet}
-use Rattle.numbers.proofs.SetsLawful.{same-roles}
 use Rattle.numbers.proofs.Turning.{turned-members, turned-back, turned-covers}
 use Rattle.numbers.proofs.role_set.RoleSet.turned.Needs as need
 
-pub ghost-result : need.ghost-result
-ghost-result c = (turned-small (c .args .self .bits) (c .args .self .small), tt)
-
 pub returns : need.returns
-returns c = record {
-  value = same-roles _ _ refl;
-  members = λ role. turned-members (c .args .self) role;
-  back = same-roles _ _ refl ∙ turned-back (c .args .self);
-  inclusion = λ other. turned-covers (c .args .self) other;
-}
+returns c =
+    let value = c .of-word .ensures in
+    record {
+      value = value;
+      members = λ role. ap (λ (s : RoleSet). role-has s (role-number role)) value ∙ turned-members (c .args .self) role;
+      back = ap turned-set value ∙ turned-back (c .args .self);
+      inclusion = λ other. ap (λ (s : RoleSet). role-covers s (turned-set other)) value ∙ turned-covers (c .args .self) other;
+    }
