@@ -7,23 +7,23 @@ use crate::making::forward;
 use crate::making::only;
 use crate::making::role_under;
 use crate::making::under;
+use catalogue::reader::Catalogue;
+use catalogue::reader::CatalogueShelf;
 use numbers::term::Term;
-use shelf::catalogue::Catalogue;
-use shelf::fault::ByteFault;
-use shelf::fault::Cause;
-use shelf::fault::ShelfFault;
-use shelf::form::Form;
-use shelf::shelf::Shelf;
-use std::test::*;
 use numbers::term_set::TermSetDebug;
 use numbers::term_set::TermSetPartialEq;
-use shelf::catalogue::CatalogueShelf;
+use shelf::fault::ByteFault;
 use shelf::fault::ByteFaultDebug;
 use shelf::fault::ByteFaultPartialEq;
+use shelf::fault::Cause;
+use shelf::fault::ShelfFault;
 use shelf::fault::ShelfFaultDebug;
 use shelf::fault::ShelfFaultPartialEq;
+use shelf::form::Form;
 use shelf::form::FormDebug;
 use shelf::form::FormPartialEq;
+use shelf::shelf::Shelf;
+use std::test::*;
 
 // A body has its place, the byte where it starts, and its form.
 #[test]
@@ -53,7 +53,10 @@ fn a_body_has_its_place_and_start() -> Result<(), Fail> {
 #[test]
 fn a_body_has_its_left_bytes(rt: LibcRuntime) -> Result<(), Fail> {
     let heap = rt.alloc();
-    let bytes = catalogue_bytes(heap, &[&[2, 0, 0], &[4, 144, 64, 3, 5, 64], &[4, 144, 64, 5, 3, 65]])?;
+    let bytes = catalogue_bytes(
+        heap,
+        &[&[2, 0, 0], &[4, 144, 64, 3, 5, 64], &[4, 144, 64, 5, 3, 65]],
+    )?;
     let shelf = Catalogue::new(bytes.as_slice(), 7);
     let rising = shelf.body(2)?;
     check_eq(rising.start, 17)?;
@@ -99,6 +102,9 @@ fn a_faulty_body_is_refused(rt: LibcRuntime) -> Result<(), Fail> {
     check_eq(body_fault(bytes, 3), Some(fault(Cause::Second, 26, 7, 3)))?;
     check_eq(body_fault(bytes, 4), Some(fault(Cause::Line, 14, 7, 4)))?;
     check_eq(body_fault(bytes, 5), Some(fault(Cause::Outside, 0, 7, 5)))?;
-    check_eq(body_fault(&[0, 1], 1), Some(fault(Cause::Contents, 0, 7, 1)))?;
+    check_eq(
+        body_fault(&[0, 1], 1),
+        Some(fault(Cause::Contents, 0, 7, 1)),
+    )?;
     check_eq(body_fault(&[0, 1], 2), Some(fault(Cause::Outside, 0, 7, 2)))
 }

@@ -10,20 +10,20 @@ use crate::making::nothing;
 use crate::making::only;
 use crate::making::role_under;
 use crate::making::under;
+use catalogue::reader::Catalogue;
+use catalogue::reader::CatalogueShelf;
 use numbers::term::Term;
-use shelf::catalogue::Catalogue;
+use numbers::term_set::TermSetDebug;
+use numbers::term_set::TermSetPartialEq;
 use shelf::fault::Cause;
+use shelf::fault::ShelfFaultDebug;
+use shelf::fault::ShelfFaultPartialEq;
 use shelf::form::Axiom;
+use shelf::form::FormDebug;
+use shelf::form::FormPartialEq;
 use shelf::shelf::Shelf;
 use std::alloc::Global;
 use std::test::*;
-use numbers::term_set::TermSetDebug;
-use numbers::term_set::TermSetPartialEq;
-use shelf::catalogue::CatalogueShelf;
-use shelf::fault::ShelfFaultDebug;
-use shelf::fault::ShelfFaultPartialEq;
-use shelf::form::FormDebug;
-use shelf::form::FormPartialEq;
 
 // Two entries are read, and the places around them are outside.
 #[test]
@@ -42,7 +42,23 @@ fn two_entries_are_read() -> Result<(), Fail> {
 #[test]
 fn a_late_start_is_a_fault_of_that_entry() -> Result<(), Fail> {
     let bytes = [
-        0x00, 0x02, 0x00, 0x0a, 0x00, 0x04, 0x00, 0x0f, 0x00, 0x03, 0x01, 0x00, 0x02, 0x01, 0x06, 0x01, 0x82,
+        0x00,
+        0x02,
+        0x00,
+        0x0a,
+        0x00,
+        0x04,
+        0x00,
+        0x0f,
+        0x00,
+        0x03,
+        0x01,
+        0x00,
+        0x02,
+        0x01,
+        0x06,
+        0x01,
+        0x82,
     ];
     let shelf = Catalogue::new(&bytes, 7);
     check_eq(shelf.count(), 2)?;
@@ -86,11 +102,19 @@ fn each_kind_is_read(rt: LibcRuntime) -> Result<(), Fail> {
     check_read(heap, &[2, 0, 0], nothing(&[]))?;
     check_read(heap, &[2, 0, 0, 64], nothing(&[64]))?;
     check_read(heap, &[3, 1, 0], exists(&[], forward(1), None))?;
-    check_read(heap, &[3, 144, 64, 7], exists(&[7], backward(16), Some(Term(64))))?;
+    check_read(
+        heap,
+        &[3, 144, 64, 7],
+        exists(&[7], backward(16), Some(Term(64))),
+    )?;
     check_read(heap, &[4, 16, 1], only(&[], forward(16), 1))?;
     check_read(heap, &[4, 129, 64, 1, 64], only(&[1, 64], backward(1), 64))?;
     check_read(heap, &[5, 129, 0], at_most_one(&[], backward(1), None))?;
-    check_read(heap, &[5, 16, 1, 5, 6], at_most_one(&[5, 6], forward(16), Some(Term(1))))?;
+    check_read(
+        heap,
+        &[5, 16, 1, 5, 6],
+        at_most_one(&[5, 6], forward(16), Some(Term(1))),
+    )?;
     check_read(heap, &[6, 1, 144], role_under(forward(1), backward(16)))?;
     check_read(heap, &[6, 129, 16], role_under(backward(1), forward(16)))
 }

@@ -8,21 +8,21 @@ use crate::making::nothing;
 use crate::making::push_word;
 use crate::making::role_under;
 use crate::making::under;
-use shelf::catalogue::Catalogue;
+use catalogue::reader::Catalogue;
+use catalogue::reader::CatalogueShelf;
+use numbers::term_set::TermSetDebug;
+use numbers::term_set::TermSetPartialEq;
 use shelf::fault::Cause;
 use shelf::fault::Entry;
+use shelf::fault::ShelfFaultDebug;
+use shelf::fault::ShelfFaultPartialEq;
 use shelf::form::Form;
+use shelf::form::FormDebug;
+use shelf::form::FormPartialEq;
 use shelf::shelf::Shelf;
 use std::alloc::AllocError;
 use std::alloc::Global;
 use std::test::*;
-use numbers::term_set::TermSetDebug;
-use numbers::term_set::TermSetPartialEq;
-use shelf::catalogue::CatalogueShelf;
-use shelf::fault::ShelfFaultDebug;
-use shelf::fault::ShelfFaultPartialEq;
-use shelf::form::FormDebug;
-use shelf::form::FormPartialEq;
 
 // A catalogue may have 512 entries.
 #[test]
@@ -105,8 +105,20 @@ fn far_entry(heap: Global, body: &[u8]) -> Result<Entry, AllocError> {
 fn a_body_beyond_65535_is_read(rt: LibcRuntime) -> Result<(), Fail> {
     let heap = rt.alloc();
     check_eq(far_entry(heap, &[1, 0, 2, 1])?, Ok(under(&[1], 2)))?;
-    check_eq(far_entry(heap, &[0, 0, 2, 1])?, Err(fault(Cause::Kind, 65535, 7, 2)))?;
-    check_eq(far_entry(heap, &[1, 1, 2, 1])?, Err(fault(Cause::First, 65536, 7, 2)))?;
-    check_eq(far_entry(heap, &[1, 0, 0, 1])?, Err(fault(Cause::Second, 65537, 7, 2)))?;
-    check_eq(far_entry(heap, &[1, 0, 2, 1, 1])?, Err(fault(Cause::Left, 65539, 7, 2)))
+    check_eq(
+        far_entry(heap, &[0, 0, 2, 1])?,
+        Err(fault(Cause::Kind, 65535, 7, 2)),
+    )?;
+    check_eq(
+        far_entry(heap, &[1, 1, 2, 1])?,
+        Err(fault(Cause::First, 65536, 7, 2)),
+    )?;
+    check_eq(
+        far_entry(heap, &[1, 0, 0, 1])?,
+        Err(fault(Cause::Second, 65537, 7, 2)),
+    )?;
+    check_eq(
+        far_entry(heap, &[1, 0, 2, 1, 1])?,
+        Err(fault(Cause::Left, 65539, 7, 2)),
+    )
 }

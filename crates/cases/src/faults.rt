@@ -2,18 +2,18 @@
 use crate::making::catalogue_bytes;
 use crate::making::fault;
 use crate::making::under;
-use shelf::catalogue::Catalogue;
-use shelf::fault::Cause;
-use shelf::shelf::Shelf;
-use std::alloc::Global;
-use std::test::*;
+use catalogue::reader::Catalogue;
+use catalogue::reader::CatalogueShelf;
 use numbers::term_set::TermSetDebug;
 use numbers::term_set::TermSetPartialEq;
-use shelf::catalogue::CatalogueShelf;
+use shelf::fault::Cause;
 use shelf::fault::ShelfFaultDebug;
 use shelf::fault::ShelfFaultPartialEq;
 use shelf::form::FormDebug;
 use shelf::form::FormPartialEq;
+use shelf::shelf::Shelf;
+use std::alloc::Global;
+use std::test::*;
 
 // Checks that a body, the second of a catalogue and there at the byte 14, is a fault, and the first is not.
 fn check_fault(heap: Global, body: &[u8], cause: Cause, byte: usize) -> Result<(), Fail> {

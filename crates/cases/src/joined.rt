@@ -6,27 +6,30 @@ use crate::making::forward;
 use crate::making::nothing;
 use crate::making::role_under;
 use crate::making::under;
-use shelf::catalogue::Catalogue;
-use shelf::fault::Cause;
-use shelf::joined::Joined;
-use shelf::records::Records;
-use shelf::shelf::Shelf;
-use std::test::*;
+use catalogue::reader::Catalogue;
+use catalogue::reader::CatalogueShelf;
 use numbers::term_set::TermSetDebug;
 use numbers::term_set::TermSetPartialEq;
-use shelf::catalogue::CatalogueShelf;
+use shelf::fault::Cause;
 use shelf::fault::ShelfFaultDebug;
 use shelf::fault::ShelfFaultPartialEq;
 use shelf::form::FormClone;
 use shelf::form::FormDebug;
 use shelf::form::FormPartialEq;
+use shelf::joined::Joined;
 use shelf::joined::JoinedShelf;
+use shelf::records::Records;
 use shelf::records::RecordsShelf;
+use shelf::shelf::Shelf;
+use std::test::*;
 
 // Checks that the places around so many entries are outside a shelf of the mark.
 fn check_outside<S: Shelf>(shelf: &S, mark: u16, places: &[u16]) -> Result<(), Fail> {
     for place in places {
-        check_eq(shelf.entry(*place), Err(fault(Cause::Outside, 0, mark, *place))).note(*place)?;
+        check_eq(
+            shelf.entry(*place),
+            Err(fault(Cause::Outside, 0, mark, *place)),
+        ).note(*place)?;
     }
     Ok(())
 }
@@ -50,7 +53,11 @@ fn lists_follow_one_another() -> Result<(), Fail> {
 // A fault keeps the mark and the place that it has on its own shelf, first or second.
 #[test]
 fn faults_keep_their_marks_and_places() -> Result<(), Fail> {
-    let records = [under(&[1], 2), role_under(forward(0), forward(1)), under(&[1], 65)];
+    let records = [
+        under(&[1], 2),
+        role_under(forward(0), forward(1)),
+        under(&[1], 65),
+    ];
     let bytes = [0, 1, 0, 6, 0, 4, 1, 0, 2, 0];
     let first = Records::new(&records, 8);
     let second = Catalogue::new(&bytes, 7);

@@ -8,19 +8,19 @@ use crate::making::nothing;
 use crate::making::push_word;
 use crate::making::role_under;
 use crate::making::under;
-use shelf::catalogue::Catalogue;
-use shelf::fault::Cause;
-use shelf::fault::Entry;
-use shelf::shelf::Shelf;
-use std::alloc::Global;
-use std::test::*;
+use catalogue::reader::Catalogue;
+use catalogue::reader::CatalogueShelf;
 use numbers::term_set::TermSetDebug;
 use numbers::term_set::TermSetPartialEq;
-use shelf::catalogue::CatalogueShelf;
+use shelf::fault::Cause;
+use shelf::fault::Entry;
 use shelf::fault::ShelfFaultDebug;
 use shelf::fault::ShelfFaultPartialEq;
 use shelf::form::FormDebug;
 use shelf::form::FormPartialEq;
+use shelf::shelf::Shelf;
+use std::alloc::Global;
+use std::test::*;
 
 // Checks that bytes whose contents cannot be read mean one faulty entry.
 fn check_unreadable(bytes: &[u8]) -> Result<(), Fail> {
@@ -67,7 +67,12 @@ fn the_count_513_cannot_be_read(rt: LibcRuntime) -> Result<(), Fail> {
 struct Line(usize, usize);
 
 // Checks the entries of two lines with the bytes after them, which start at the byte 10.
-fn check_lines(heap: Global, lines: [Line; 2], bodies: &[u8], expected: [Entry; 2]) -> Result<(), Fail> {
+fn check_lines(
+    heap: Global,
+    lines: [Line; 2],
+    bodies: &[u8],
+    expected: [Entry; 2],
+) -> Result<(), Fail> {
     let mut bytes = vec![in heap; 0u8, 2]?;
     for Line(start, length) in lines {
         push_word(&mut bytes, start)?;
@@ -98,11 +103,36 @@ fn a_start_is_where_the_bytes_before_end(rt: LibcRuntime) -> Result<(), Fail> {
     let bodies = [2, 0, 0, 1, 0, 9];
     let [none, nine] = [Ok(nothing(&[])), Ok(under(&[], 9))];
     check_lines(heap, [Line(10, 3), Line(13, 3)], &bodies, [none, nine])?;
-    check_lines(heap, [Line(10, 3), Line(12, 4)], &bodies, [none, second_fault()])?;
-    check_lines(heap, [Line(10, 3), Line(14, 3)], &bodies, [none, second_fault()])?;
-    check_lines(heap, [Line(9, 4), Line(13, 3)], &bodies, [first_fault(), nine])?;
-    check_lines(heap, [Line(11, 3), Line(13, 3)], &bodies, [first_fault(), second_fault()])?;
-    check_lines(heap, [Line(0, 13), Line(13, 3)], &bodies, [first_fault(), nine])
+    check_lines(
+        heap,
+        [Line(10, 3), Line(12, 4)],
+        &bodies,
+        [none, second_fault()],
+    )?;
+    check_lines(
+        heap,
+        [Line(10, 3), Line(14, 3)],
+        &bodies,
+        [none, second_fault()],
+    )?;
+    check_lines(
+        heap,
+        [Line(9, 4), Line(13, 3)],
+        &bodies,
+        [first_fault(), nine],
+    )?;
+    check_lines(
+        heap,
+        [Line(11, 3), Line(13, 3)],
+        &bodies,
+        [first_fault(), second_fault()],
+    )?;
+    check_lines(
+        heap,
+        [Line(0, 13), Line(13, 3)],
+        &bodies,
+        [first_fault(), nine],
+    )
 }
 
 // A length has to be 3 to 67, and the line after counts on it, right or wrong.
@@ -150,7 +180,9 @@ fn cut_entries(length: usize) -> [Entry; 2] {
 #[test]
 fn a_cut_catalogue_keeps_whole_bodies() -> Result<(), Fail> {
     for length in 0..=17usize {
-        let bytes = TWO_ENTRIES.get(0..length).ok_or("longer than the catalogue")?;
+        let bytes = TWO_ENTRIES
+            .get(0..length)
+            .ok_or("longer than the catalogue")?;
         let shelf = Catalogue::new(bytes, 7);
         let [first, second] = cut_entries(length);
         check_eq(shelf.entry(1), first).note(length)?;

@@ -9,19 +9,19 @@ use crate::making::only;
 use crate::making::role_under;
 use crate::making::under;
 use numbers::term::Term;
-use shelf::fault::Cause;
-use shelf::form::Axiom;
-use shelf::records::Records;
-use shelf::shelf::Shelf;
-use std::test::*;
 use numbers::term_set::TermSetDebug;
 use numbers::term_set::TermSetPartialEq;
+use shelf::fault::Cause;
 use shelf::fault::ShelfFaultDebug;
 use shelf::fault::ShelfFaultPartialEq;
+use shelf::form::Axiom;
 use shelf::form::FormClone;
 use shelf::form::FormDebug;
 use shelf::form::FormPartialEq;
+use shelf::records::Records;
 use shelf::records::RecordsShelf;
+use shelf::shelf::Shelf;
+use std::test::*;
 
 // Checks that a record, the second of two, is a fault of the cause at no byte, and the first is not.
 fn check_fault(record: Axiom, cause: Cause) -> Result<(), Fail> {
@@ -42,7 +42,11 @@ fn check_kept(record: Axiom) -> Result<(), Fail> {
 // Records stand in their order, and the places around them are outside.
 #[test]
 fn records_stand_in_order() -> Result<(), Fail> {
-    let records = [nothing(&[3]), under(&[1], 2), role_under(forward(1), backward(2))];
+    let records = [
+        nothing(&[3]),
+        under(&[1], 2),
+        role_under(forward(1), backward(2)),
+    ];
     let shelf = Records::new(&records, 8);
     check_eq(shelf.count(), 3)?;
     check_eq(shelf.entry(1), Ok(nothing(&[3])))?;
@@ -102,7 +106,10 @@ fn a_right_side_of_a_record_is_a_term() -> Result<(), Fail> {
         check_fault(under(&[1], number), Cause::Second)?;
         check_fault(only(&[1], forward(1), number), Cause::Second)?;
         check_fault(exists(&[1], forward(1), Some(Term(number))), Cause::Second)?;
-        check_fault(at_most_one(&[1], backward(16), Some(Term(number))), Cause::Second)?;
+        check_fault(
+            at_most_one(&[1], backward(16), Some(Term(number))),
+            Cause::Second,
+        )?;
     }
     Ok(())
 }

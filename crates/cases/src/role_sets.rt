@@ -2,14 +2,14 @@
 use crate::making::backward;
 use crate::making::forward;
 use numbers::role::DirectedRole;
-use numbers::role_set::RoleSet;
-use numbers::set::NumberSet;
-use std::test::*;
 use numbers::role::DirectedRoleDebug;
 use numbers::role::DirectedRolePartialEq;
+use numbers::role_set::RoleSet;
 use numbers::role_set::RoleSetDebug;
 use numbers::role_set::RoleSetMembers;
 use numbers::role_set::RoleSetPartialEq;
+use numbers::set::NumberSet;
+use std::test::*;
 
 // The set of these roles.
 fn roles(members: &[DirectedRole]) -> RoleSet {

@@ -4,10 +4,10 @@ use crate::making::terms;
 use numbers::set::NumberSet;
 use numbers::term::Term;
 use numbers::term_set::TermSet;
-use numbers::term_set::TermSetMembers;
-use std::test::*;
 use numbers::term_set::TermSetDebug;
+use numbers::term_set::TermSetMembers;
 use numbers::term_set::TermSetPartialEq;
+use std::test::*;
 
 // A term means something if its number is from 1 to 64.
 #[test]

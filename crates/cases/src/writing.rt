@@ -12,29 +12,29 @@ use crate::making::nothing;
 use crate::making::only;
 use crate::making::role_under;
 use crate::making::under;
+use catalogue::reader::Catalogue;
+use catalogue::reader::CatalogueShelf;
 use numbers::term::Term;
-use shelf::catalogue::Catalogue;
-use shelf::fault::Cause;
-use shelf::form::Form;
-use shelf::joined::Joined;
-use shelf::records::Records;
-use shelf::shelf::Shelf;
-use shelf::writer::WriteRefusal;
-use shelf::writer::write;
-use std::alloc::Global;
-use std::test::*;
 use numbers::term_set::TermSetDebug;
 use numbers::term_set::TermSetPartialEq;
-use shelf::catalogue::CatalogueShelf;
+use shelf::fault::Cause;
 use shelf::fault::ShelfFaultDebug;
 use shelf::fault::ShelfFaultPartialEq;
+use shelf::form::Form;
 use shelf::form::FormClone;
 use shelf::form::FormDebug;
 use shelf::form::FormPartialEq;
+use shelf::joined::Joined;
 use shelf::joined::JoinedShelf;
+use shelf::records::Records;
 use shelf::records::RecordsShelf;
-use shelf::writer::WriteRefusalDebug;
-use shelf::writer::WriteRefusalPartialEq;
+use shelf::shelf::Shelf;
+use std::alloc::Global;
+use std::test::*;
+use writer::WriteRefusal;
+use writer::WriteRefusalDebug;
+use writer::WriteRefusalPartialEq;
+use writer::write;
 
 // Checks that a shelf is written as these bytes into a buffer with so many bytes more, which stay.
 fn check_written<S: Shelf>(heap: Global, shelf: &S, bytes: &[u8], more: usize) -> Result<(), Fail> {
@@ -48,7 +48,12 @@ fn check_written<S: Shelf>(heap: Global, shelf: &S, bytes: &[u8], more: usize) -
 }
 
 // Checks that a shelf is not written into so many bytes, which stay.
-fn check_refused<S: Shelf>(heap: Global, shelf: &S, room: usize, refusal: WriteRefusal) -> Result<(), Fail> {
+fn check_refused<S: Shelf>(
+    heap: Global,
+    shelf: &S,
+    room: usize,
+    refusal: WriteRefusal,
+) -> Result<(), Fail> {
     let untouched = vec![in heap; 0xeeu8; room]?;
     let mut buffer = vec![in heap; 0xeeu8; room]?;
     check_eq(write(shelf, buffer.as_mut_slice()), Err(refusal)).note(room)?;
@@ -117,7 +122,12 @@ fn each_form_is_written(rt: LibcRuntime) -> Result<(), Fail> {
     ];
     let bytes = catalogue_bytes(heap, &bodies)?;
     check_written(heap, &Records::new(&records, 8), bytes.as_slice(), 2)?;
-    check_written(heap, &Catalogue::new(bytes.as_slice(), 7), bytes.as_slice(), 2)
+    check_written(
+        heap,
+        &Catalogue::new(bytes.as_slice(), 7),
+        bytes.as_slice(),
+        2,
+    )
 }
 
 // Joined shelves are written as one catalogue.
@@ -125,7 +135,11 @@ fn each_form_is_written(rt: LibcRuntime) -> Result<(), Fail> {
 fn joined_shelves_are_written(rt: LibcRuntime) -> Result<(), Fail> {
     let heap = rt.alloc();
     let records = [nothing(&[3])];
-    let shelf = Joined::new(Records::new(&records, 8), Catalogue::new(&TWO_ENTRIES, 7), 9);
+    let shelf = Joined::new(
+        Records::new(&records, 8),
+        Catalogue::new(&TWO_ENTRIES, 7),
+        9,
+    );
     let bytes = catalogue_bytes(heap, &[&[2, 0, 0, 3], &[1, 0, 2, 1], &[6, 1, 130]])?;
     check_written(heap, &shelf, bytes.as_slice(), 5)?;
     check_refused(heap, &shelf, 24, WriteRefusal::TooShort)
@@ -159,7 +173,12 @@ fn entries_513_are_not_written(rt: LibcRuntime) -> Result<(), Fail> {
     let many = vec![in heap; nothing(&[]); 32768]?;
     let half = Records::new(many.as_slice(), 8);
     check_refused(heap, &half, 4000, WriteRefusal::Unwritable)?;
-    check_refused(heap, &Joined::new(half, half, 9), 4000, WriteRefusal::Unwritable)
+    check_refused(
+        heap,
+        &Joined::new(half, half, 9),
+        4000,
+        WriteRefusal::Unwritable,
+    )
 }
 
 // The largest catalogue, 512 entries of 67 bytes, is written into 36,354 bytes and read back.

@@ -8,13 +8,13 @@ use lib.Dec.{leb}
 use lib.ListN.{length}
 use Rattle.std.proofs.shelf.Tests.{cond-false, and-parts, and-from, le-leb}
 use Rattle.std.specs.declared.result.Result.the-variants.{Ok, Err}
-use Rattle.shelf.specs.Catalogues.{Bytes, catalogue-list}
-use Rattle.shelf.specs.CatalogueLists.{catalogue-few}
+use Rattle.catalogue.specs.Catalogues.{Bytes, catalogue-list}
+use Rattle.catalogue.specs.CatalogueLists.{catalogue-few}
 use Rattle.shelf.specs.Shelves.{Entry}
-use Rattle.shelf.specs.Writing.{catalogue-bytes, faultless, writable, write-answer}
-use Rattle.shelf.specs.declared.writer.WriteRefusal.{WriteRefusal}
-use Rattle.shelf.proofs.Filling.{answer-ok}
-use Rattle.shelf.proofs.WrittenAgain.{written-again}
+use Rattle.writer.specs.Writing.{catalogue-bytes, faultless, writable, write-answer}
+use Rattle.writer.specs.declared.WriteRefusal.{WriteRefusal}
+use Rattle.writer.proofs.Filling.{answer-ok}
+use Rattle.writer.proofs.WrittenAgain.{written-again}
 
 -- the list of a catalogue that was made of some bytes is that of the bytes
 pub same-list : (a b : List ℕ) (m n : ℕ) → a ≡ b → m ≡ n → catalogue-list a m ≡ catalogue-list b n

@@ -11,7 +11,7 @@ use Rattle.std.proofs.shelf.Lists.{append-nil, take-more, length-take-le}
 use Rattle.std.proofs.shelf.Tests.{true≢false, false≢true}
 use Rattle.std.specs.declared.result.Result.the-variants.{Ok, Err}
 use Rattle.shelf.specs.Shelves.{Entry}
-use Rattle.shelf.specs.Writing.{faultless}
+use Rattle.writer.specs.Writing.{faultless}
 use Rattle.inspect.specs.Listings.{line-text, lines-text, faults-in, counts-text, end-text, listing-text}
 
 lines-push : (p : ℕ) (es : List Entry) (e : Entry) → lines-text p (es ++ (e ∷ [])) ≡ lines-text p es ++ line-text (p + length es) e

@@ -18,8 +18,8 @@ use Rattle.std.proofs.shelf.Lists.{append-nil}
 use Rattle.std.proofs.shelf.Tests.{cond-true, cond-false, ne-eqb, eqb-true}
 use Rattle.numbers.specs.TermSets.{term-has}
 use Rattle.numbers.specs.declared.term_set.TermSet.{TermSet}
-use Rattle.shelf.specs.Writing.{left-bytes}
-use Rattle.shelf.proofs.Members.{kept-next, all-members}
+use Rattle.writer.specs.Writing.{left-bytes}
+use Rattle.writer.proofs.Members.{kept-next, all-members}
 use Rattle.inspect.specs.Statements.{spaced, so-far, left-text}
 
 spaced-more : (ns : List ℕ) (n : ℕ) → spaced (ns ++ (n ∷ [])) ≡ spaced ns ++ (codes " " ++ decimal n)

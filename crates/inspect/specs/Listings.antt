@@ -8,7 +8,7 @@ use Rattle.std.specs.Written.{decimal}
 use Rattle.std.specs.declared.result.Result.the-variants.{Ok, Err}
 use Rattle.shelf.specs.Faults.{cause-number}
 use Rattle.shelf.specs.Shelves.{Entry}
-use Rattle.shelf.specs.Writing.{faultless}
+use Rattle.writer.specs.Writing.{faultless}
 use Rattle.inspect.specs.Statements.{statement}
 
 -- what an entry states, or what is wrong with it and at which byte

@@ -13,7 +13,7 @@ use Rattle.numbers.specs.declared.role.DirectedRole.the-variants.{Forward, Back
 use Rattle.numbers.specs.declared.term.Term.{Term}
 use Rattle.numbers.specs.declared.term_set.TermSet.{TermSet}
 use Rattle.shelf.specs.Axioms.{Axiom}
-use Rattle.shelf.specs.Writing.{left-bytes}
+use Rattle.writer.specs.Writing.{left-bytes}
 use Rattle.shelf.specs.declared.form.Form.the-variants.{Under, Nothing, Exists, Only, AtMostOne, RoleUnder}
 
 -- numbers, a space before each

@@ -4,18 +4,18 @@ ghost use mathlib.Core.List.{_++_};
 ghost use lib.ListN.{length};
 ghost use Rattle.std.specs.Of.String.{string-bytes};
 ghost use Rattle.std.specs.Vec.{made};
-ghost use Rattle.shelf.specs.Catalogues.{Bytes, catalogue-list};
-ghost use Rattle.shelf.specs.Writing.{faultless};
+ghost use Rattle.catalogue.specs.Catalogues.{Bytes, catalogue-list};
+ghost use Rattle.writer.specs.Writing.{faultless};
 ghost use Rattle.inspect.specs.Listings.{entry-text, line-text, lines-text, faults-in, counts-text, end-text, listing-text};
 use crate::statement::push_number;
 use crate::statement::push_statement;
-use shelf::catalogue::Catalogue;
-use shelf::catalogue::CatalogueShelf;
+use catalogue::reader::Catalogue;
+use catalogue::reader::CatalogueShelf;
 use shelf::fault::Entry;
 use shelf::shelf::Shelf;
-use shelf::writer::write;
 use std::alloc::AllocError;
 use std::alloc::Global;
+use writer::write;
 
 // Adds what an entry states, or what is wrong with it.
 fn push_entry(text: &mut String, entry: Entry) -> Result<(), AllocError>

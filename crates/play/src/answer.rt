@@ -7,19 +7,19 @@ use crate::text::EntryText;
 use crate::text::EntryTextDisplay;
 use crate::text::HexText;
 use crate::text::HexTextDisplay;
-use shelf::catalogue::Catalogue;
-use shelf::catalogue::CatalogueShelf;
+use catalogue::reader::Catalogue;
+use catalogue::reader::CatalogueShelf;
 use shelf::fault::Entry;
 use shelf::joined::Joined;
 use shelf::joined::JoinedShelf;
 use shelf::records::Records;
 use shelf::records::RecordsShelf;
 use shelf::shelf::Shelf;
-use shelf::writer::WriteRefusal;
-use shelf::writer::write;
 use std::alloc::AllocError;
 use std::alloc::Global;
 use std::fmt;
+use writer::WriteRefusal;
+use writer::write;
 
 // What a shelf answers; a buffer is kept whole, with the length of what was written.
 #[derive(Drop)]

@@ -1,11 +1,6 @@
 pub mod Axioms
-pub mod Bodies
-pub mod CatalogueLists
-pub mod Catalogues
 pub mod EntryLists
 pub mod Faults
-pub mod Handed
 pub mod RecordLists
 pub mod Records
 pub mod Shelves
-pub mod Writing

@@ -87,7 +87,7 @@ pub fn located(read: Result<Axiom, ByteFault>, origin: Origin) -> Entry
 }
 
 // The entry for a fault that concerns no byte.
-pub fn without_byte(cause: Cause, origin: Origin) -> Entry
+pub(crate) fn without_byte(cause: Cause, origin: Origin) -> Entry
     ensures { λ r. ⌜ r ≡ byteless (origin .mark) (origin .place) cause ⌝ }
 {
     located(Err(ByteFault { cause, byte: 0 }), origin)

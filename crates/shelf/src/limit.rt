@@ -11,14 +11,14 @@ use crate::fault::Origin;
 use crate::fault::without_byte;
 
 // How many entries a shelf has that was made of so many.
-pub fn limited_count(total: usize) -> u16
+pub(crate) fn limited_count(total: usize) -> u16
     ensures { λ r. ⌜ ((m : ℕ) (xs : List Entry) → length xs ≡ total → r ≡ length (at-most-all m xs)) ⌝ }
 {
     if total <= 65535 { total as u16 } else { 1 }
 }
 
 // The answer at a place where there is no entry to look at: too many were joined, or the place is outside.
-pub fn beyond(total: usize, origin: Origin) -> Option<Entry>
+pub(crate) fn beyond(total: usize, origin: Origin) -> Option<Entry>
     ensures { λ r. ⌜ Cases r ((1 ≤ origin .place) × (origin .place ≤ total) × (total ≤ 65535))
         (λ e. (xs : List Entry) → length xs ≡ total → e ≡ entry-at (at-most-all (origin .mark) xs) (origin .mark) (origin .place)) ⌝ }
 {

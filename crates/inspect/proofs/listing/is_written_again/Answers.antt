@@ -5,9 +5,9 @@ use native.Mathlib.Omega.{arith}
 use lib.ListN.{length, take}
 use Rattle.std.proofs.shelf.Equals.{matches-decides}
 use Rattle.std.specs.declared.result.Result.the-variants.{Ok, Err}
-use Rattle.shelf.specs.Catalogues.{catalogue-list}
+use Rattle.catalogue.specs.Catalogues.{catalogue-list}
 use Rattle.shelf.specs.Shelves.{Entry}
-use Rattle.shelf.specs.Writing.{write-answer}
+use Rattle.writer.specs.Writing.{write-answer}
 use Rattle.inspect.proofs.Again.{same-list, taken-faultless, refused-faulty}
 use Rattle.inspect.proofs.listing.is_written_again.Needs as need
 

@@ -3,7 +3,7 @@ use mathlib.Core.List.{List, _++_}
 use mathlib.Core.Path.{_≡_, sym, ap, _∙_}
 use lib.ListN.{length}
 use Rattle.std.specs.Of.String.{string-bytes}
-use Rattle.shelf.specs.Catalogues.{catalogue-list}
+use Rattle.catalogue.specs.Catalogues.{catalogue-list}
 use Rattle.shelf.specs.Shelves.{Entry}
 use Rattle.inspect.specs.Listings.{lines-text, faults-in}
 use Rattle.inspect.proofs.Again.{same-list}

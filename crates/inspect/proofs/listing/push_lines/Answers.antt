@@ -8,7 +8,7 @@ use Rattle.std.specs.Of.String.{string-bytes}
 use Rattle.std.specs.Results.{isErr}
 use Rattle.shelf.specs.Shelves.{Entry, byteless}
 use Rattle.shelf.specs.declared.fault.Cause.the-variants.{Outside}
-use Rattle.shelf.proofs.Filling.{entry-next}
+use Rattle.writer.proofs.Filling.{entry-next}
 use Rattle.inspect.specs.Listings.{line-text, lines-text, faults-in}
 use Rattle.inspect.proofs.Lines.{lines-more, fault-more, axiom-more}
 use Rattle.inspect.proofs.listing.push_lines.Needs as need

@@ -1,0 +1,4 @@
+pub mod Bodies
+pub mod CatalogueLists
+pub mod Catalogues
+pub mod Handed

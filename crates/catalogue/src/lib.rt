@@ -1,0 +1,4 @@
+// The catalogue format: a shelf over bytes.
+mod body;
+mod contents;
+pub mod reader;

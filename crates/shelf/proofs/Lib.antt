@@ -1,9 +1,0 @@
-pub mod BodyRead
-pub mod CatalogueBodies
-pub mod Filling
-pub mod LaidOut
-pub mod LeftLists
-pub mod LeftRead
-pub mod Members
-pub mod RoundTrip
-pub mod WrittenAgain

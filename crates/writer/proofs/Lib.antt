@@ -1,0 +1,7 @@
+pub mod BodyRead
+pub mod Filling
+pub mod LaidOut
+pub mod LeftRead
+pub mod Members
+pub mod RoundTrip
+pub mod WrittenAgain
