@@ -1,10 +1,13 @@
 // What a role set has as members, by operations on its word.
 ghost use mathlib.Core.Path.{_≡_};
+ghost use mathlib.Core.Bool.{not};
+ghost use lib.Bits.{bitAnd};
+ghost use lib.Dec.{eqb};
 ghost use Rattle.std.specs.Orderings.{Decides};
 ghost use Rattle.numbers.specs.Bits.{word-single};
 ghost use Rattle.numbers.specs.Roles.{turn, role-number};
 ghost use Rattle.numbers.specs.declared.role.DirectedRole.{DirectedRole};
-ghost use Rattle.numbers.specs.RoleSets.{role-word, role-has, role-none, role-single, role-covers, role-joined, turned-set};
+ghost use Rattle.numbers.specs.RoleSets.{role-word, role-has, role-none, role-single, role-covers, role-joined, word-turned, turned-set};
 use super::RoleSet;
 use crate::role::DirectedRole;
 use crate::role::Role;
@@ -19,6 +22,20 @@ fn mask(role: DirectedRole) -> u32
         DirectedRole::Backward(Role(n)) if n >= 1 && n <= 16 => 1 << (n + 15),
         _ => 0,
     }
+}
+
+// Whether two words have a bit in common.
+fn meet(a: u32, b: u32) -> bool
+    ensures { λ r. ⌜ r ≡ not (eqb (bitAnd a b) 0) ⌝ }
+{
+    a & b != 0
+}
+
+// The word whose two halves have changed places.
+fn exchanged(bits: u32) -> u32
+    ensures { λ r. ⌜ r ≡ word-turned bits ⌝ }
+{
+    (bits >> 16) | (bits << 16)
 }
 
 // The set that a word stands for.
@@ -54,7 +71,7 @@ pub impl NumberSet for RoleSet as RoleSetMembers {
     }
 
     fn contains(self, item: DirectedRole) -> bool {
-        self.bits & mask(item) != 0
+        meet(self.bits, mask(item))
     }
 
     fn includes(self, other: RoleSet) -> bool {
@@ -82,6 +99,6 @@ impl RoleSet {
         ensures back { λ r. ⌜ turned-set r ≡ self ⌝ }
         ensures inclusion { λ r. ⌜ ((other : RoleSet) → role-covers r (turned-set other) ≡ role-covers self other) ⌝ }
     {
-        of_word((self.bits >> 16) | (self.bits << 16))
+        of_word(exchanged(self.bits))
     }
 }

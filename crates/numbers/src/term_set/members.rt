@@ -1,5 +1,8 @@
 // What a term set has as members, by operations on its word.
 ghost use mathlib.Core.Path.{_≡_};
+ghost use mathlib.Core.Bool.{not};
+ghost use lib.Bits.{bitAnd};
+ghost use lib.Dec.{eqb};
 ghost use Rattle.std.specs.Orderings.{Decides};
 ghost use Rattle.numbers.specs.Bits.{word-single};
 ghost use Rattle.numbers.specs.TermSets.{term-word, term-has, term-number, term-none, term-single, term-covers, term-joined};
@@ -15,6 +18,13 @@ fn mask(term: Term) -> u64
         1..=64 => 1 << (term.0 - 1),
         _ => 0,
     }
+}
+
+// Whether two words have a bit in common.
+fn meet(a: u64, b: u64) -> bool
+    ensures { λ r. ⌜ r ≡ not (eqb (bitAnd a b) 0) ⌝ }
+{
+    a & b != 0
 }
 
 // The set that a word stands for.
@@ -50,7 +60,7 @@ pub impl NumberSet for TermSet as TermSetMembers {
     }
 
     fn contains(self, item: Term) -> bool {
-        self.bits & mask(item) != 0
+        meet(self.bits, mask(item))
     }
 
     fn includes(self, other: TermSet) -> bool {

@@ -7,4 +7,4 @@ use Rattle.numbers.proofs.Words.{has-mask}
 use Rattle.numbers.proofs.role_set.members.RoleSetMembers.contains.Needs as need
 
 pub returns : need.returns
-returns c = ap (λ (m : ℕ). not (eqb (bitAnd (c .args .self .bits) m) 0)) (c .mask .ensures) ∙ has-mask 32 (c .args .self .bits) _ (c .args .self .small)
+returns c = c .meet .ensures ∙ ap (λ (m : ℕ). not (eqb (bitAnd (c .args .self .bits) m) 0)) (c .mask .ensures) ∙ has-mask 32 (c .args .self .bits) _ (c .args .self .small)
