@@ -1,27 +1,19 @@
 // Faults of a body: its kind, its two fields and its left list.
+use crate::checking::check_list;
 use crate::making::catalogue_bytes;
 use crate::making::fault;
-use crate::making::under;
+use crate::making::first_entry;
 use catalogue::reader::Catalogue;
 use catalogue::reader::CatalogueShelf;
-use numbers::term_set::TermSetDebug;
-use numbers::term_set::TermSetPartialEq;
 use shelf::fault::Cause;
-use shelf::fault::ShelfFaultDebug;
-use shelf::fault::ShelfFaultPartialEq;
-use shelf::form::FormDebug;
-use shelf::form::FormPartialEq;
-use shelf::shelf::Shelf;
 use std::alloc::Global;
 use std::test::*;
 
-// Checks that a body, the second of a catalogue and there at the byte 14, is a fault, and the first is not.
+// Checks that a body is a fault, where it is the second of a catalogue and starts at the byte 14.
 fn check_fault(heap: Global, body: &[u8], cause: Cause, byte: usize) -> Result<(), Fail> {
     let bytes = catalogue_bytes(heap, &[&[1, 0, 2, 1], body])?;
-    let shelf = Catalogue::new(bytes.as_slice(), 7);
-    check_eq(shelf.count(), 2)?;
-    check_eq(shelf.entry(1), Ok(under(&[1], 2)))?;
-    check_eq(shelf.entry(2), Err(fault(cause, byte, 7, 2))).note(format_args!("{body:?}"))
+    let expected = [first_entry(), Err(fault(cause, byte, 7, 2))];
+    check_list(&Catalogue::new(bytes.as_slice(), 7), 7, &expected).note(format_args!("{body:?}"))
 }
 
 // The causes have the numbers under which they are reported.
@@ -54,7 +46,7 @@ fn a_kind_is_1_to_6(rt: LibcRuntime) -> Result<(), Fail> {
     Ok(())
 }
 
-// A role that is none, or a first field that is not 0 where it has to be, is a fault of the first field.
+// A first field that is no role, or not 0, as the kind asks, is a fault of its own.
 #[test]
 fn a_first_field_is_a_role_or_0(rt: LibcRuntime) -> Result<(), Fail> {
     for first in [0, 17, 64, 127, 128, 145, 255] {
@@ -69,7 +61,7 @@ fn a_first_field_is_a_role_or_0(rt: LibcRuntime) -> Result<(), Fail> {
     Ok(())
 }
 
-// A second field that is no term, no filler, not 0 or no role, as the kind asks, is a fault of its own.
+// A second field that is no term, not 0, or no role, as the kind asks, is a fault of its own.
 #[test]
 fn a_second_field_is_what_the_kind_asks(rt: LibcRuntime) -> Result<(), Fail> {
     let cases = [
@@ -118,7 +110,7 @@ fn a_left_list_rises(rt: LibcRuntime) -> Result<(), Fail> {
     Ok(())
 }
 
-// A statement on roles has no left list, so the first byte of one is a fault, also where it is a term.
+// A statement on roles has no left list, so the first byte of one is a fault, also a term.
 #[test]
 fn a_statement_on_roles_has_no_left_list(rt: LibcRuntime) -> Result<(), Fail> {
     check_fault(rt.alloc(), &[6, 1, 2, 1], Cause::Left, 17)?;

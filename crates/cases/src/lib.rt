@@ -4,6 +4,8 @@ mod bodies;
 #[cfg(test)]
 mod catalogues;
 #[cfg(test)]
+mod checking;
+#[cfg(test)]
 mod edges;
 #[cfg(test)]
 mod faults;

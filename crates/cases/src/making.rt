@@ -7,6 +7,7 @@ use numbers::term_set::TermSet;
 use numbers::term_set::TermSetMembers;
 use shelf::fault::ByteFault;
 use shelf::fault::Cause;
+use shelf::fault::Entry;
 use shelf::fault::Origin;
 use shelf::fault::ShelfFault;
 use shelf::form::Axiom;
@@ -15,25 +16,18 @@ use std::alloc::AllocError;
 use std::alloc::Global;
 
 // The catalogue of the axioms `{1} under 2` and `S1 under -S2`.
-pub(crate) const TWO_ENTRIES: [u8; 17] = [
-    0x00,
-    0x02,
-    0x00,
-    0x0a,
-    0x00,
-    0x04,
-    0x00,
-    0x0e,
-    0x00,
-    0x03,
-    0x01,
-    0x00,
-    0x02,
-    0x01,
-    0x06,
-    0x01,
-    0x82,
-];
+pub(crate) const TWO_ENTRIES: &[u8; 17] =
+    b"\x00\x02\x00\x0a\x00\x04\x00\x0e\x00\x03\x01\x00\x02\x01\x06\x01\x82";
+
+// The first entry of the catalogue with two.
+pub(crate) fn first_entry() -> Entry {
+    Ok(under(&[1], 2))
+}
+
+// The second entry of the catalogue with two.
+pub(crate) fn second_entry() -> Entry {
+    Ok(role_under(forward(1), backward(2)))
+}
 
 // The role of a number, read forward.
 pub(crate) fn forward(number: u8) -> DirectedRole {
@@ -76,7 +70,7 @@ pub(crate) fn nothing(left: &[u8]) -> Axiom {
     Form::Nothing { left: terms(left) }
 }
 
-// The axiom that the role leads from what carries the left to some thing that carries the filler.
+// The axiom that from what carries the left the role leads to some thing that carries the filler.
 pub(crate) fn exists(left: &[u8], role: DirectedRole, filler: Option<Term>) -> Axiom {
     Form::Exists {
         left: terms(left),
@@ -85,7 +79,7 @@ pub(crate) fn exists(left: &[u8], role: DirectedRole, filler: Option<Term>) -> A
     }
 }
 
-// The axiom that the role leads from what carries the left only to things that carry the term of a number.
+// The axiom that from what carries the left the role leads only to what carries the term of a number.
 pub(crate) fn only(left: &[u8], role: DirectedRole, number: u8) -> Axiom {
     Form::Only {
         left: terms(left),
@@ -94,7 +88,7 @@ pub(crate) fn only(left: &[u8], role: DirectedRole, number: u8) -> Axiom {
     }
 }
 
-// The axiom that the role leads from what carries the left to at most one thing that carries the filler.
+// The axiom that from what carries the left the role leads to at most one thing with the filler.
 pub(crate) fn at_most_one(left: &[u8], role: DirectedRole, filler: Option<Term>) -> Axiom {
     Form::AtMostOne {
         left: terms(left),

@@ -1,70 +1,48 @@
 // What a shelf of records answers.
+use crate::checking::check_list;
+use crate::checking::check_run;
 use crate::making::at_most_one;
 use crate::making::backward;
 use crate::making::exists;
 use crate::making::fault;
+use crate::making::first_entry;
 use crate::making::forward;
 use crate::making::nothing;
 use crate::making::only;
 use crate::making::role_under;
 use crate::making::under;
 use numbers::term::Term;
-use numbers::term_set::TermSetDebug;
-use numbers::term_set::TermSetPartialEq;
 use shelf::fault::Cause;
-use shelf::fault::ShelfFaultDebug;
-use shelf::fault::ShelfFaultPartialEq;
 use shelf::form::Axiom;
 use shelf::form::FormClone;
-use shelf::form::FormDebug;
-use shelf::form::FormPartialEq;
 use shelf::records::Records;
 use shelf::records::RecordsShelf;
 use shelf::shelf::Shelf;
 use std::test::*;
 
-// Checks that a record, the second of two, is a fault of the cause at no byte, and the first is not.
+// Checks that a record, the second of two, is a fault of the cause at no byte.
 fn check_fault(record: Axiom, cause: Cause) -> Result<(), Fail> {
     let records = [under(&[1], 2), record];
-    let shelf = Records::new(&records, 8);
-    check_eq(shelf.count(), 2)?;
-    check_eq(shelf.entry(1), Ok(under(&[1], 2)))?;
-    check_eq(shelf.entry(2), Err(fault(cause, 0, 8, 2)))
+    let expected = [first_entry(), Err(fault(cause, 0, 8, 2))];
+    check_list(&Records::new(&records, 8), 8, &expected)
 }
 
 // Checks that a record alone on a shelf is the entry there.
 fn check_kept(record: Axiom) -> Result<(), Fail> {
-    let shelf = Records::new(&[record], 8);
-    check_eq(shelf.count(), 1)?;
-    check_eq(shelf.entry(1), Ok(record))
+    check_list(&Records::new(&[record], 8), 8, &[Ok(record)])
 }
 
-// Records stand in their order, and the places around them are outside.
+// Records stand in their order, and no records are no entries.
 #[test]
 fn records_stand_in_order() -> Result<(), Fail> {
-    let records = [
+    let [a, b, c] = [
         nothing(&[3]),
         under(&[1], 2),
         role_under(forward(1), backward(2)),
     ];
-    let shelf = Records::new(&records, 8);
-    check_eq(shelf.count(), 3)?;
-    check_eq(shelf.entry(1), Ok(nothing(&[3])))?;
-    check_eq(shelf.entry(2), Ok(under(&[1], 2)))?;
-    check_eq(shelf.entry(3), Ok(role_under(forward(1), backward(2))))?;
-    for place in [0, 4, 65535] {
-        check_eq(shelf.entry(place), Err(fault(Cause::Outside, 0, 8, place)))?;
-    }
-    Ok(())
-}
-
-// A shelf of no records has no entry.
-#[test]
-fn no_records_are_no_entries() -> Result<(), Fail> {
-    let shelf = Records::new(&[], 8);
-    check_eq(shelf.count(), 0)?;
-    check_eq(shelf.entry(0), Err(fault(Cause::Outside, 0, 8, 0)))?;
-    check_eq(shelf.entry(1), Err(fault(Cause::Outside, 0, 8, 1)))
+    check_list(&Records::new(&[a, b, c], 8), 8, &[Ok(a), Ok(b), Ok(c)])?;
+    check_list(&Records::new(&[c, b], 8), 8, &[Ok(c), Ok(b)])?;
+    check_list(&Records::new(&[], 8), 8, &[])
 }
 
 // Each form of a record is an entry with its smallest and its largest numbers.
@@ -99,7 +77,7 @@ fn a_role_of_a_record_is_1_to_16() -> Result<(), Fail> {
     Ok(())
 }
 
-// A right side that is no term is a fault of the second field, also where everything would be right.
+// A right side that is no term is a fault of the second field, also where everything may stand.
 #[test]
 fn a_right_side_of_a_record_is_a_term() -> Result<(), Fail> {
     for number in [0, 65, 128, 255] {
@@ -123,23 +101,23 @@ fn the_role_of_a_record_is_tested_first() -> Result<(), Fail> {
     check_fault(role_under(forward(0), backward(17)), Cause::First)
 }
 
-// A shelf may have 65,535 records, and one more makes it a shelf of one fault.
+// A shelf may have 65,535 records.
 #[test]
-fn records_are_at_most_65535(rt: LibcRuntime) -> Result<(), Fail> {
-    let heap = rt.alloc();
-    let mut records = vec![in heap; nothing(&[3]); 65534]?;
+fn records_65535_are_read(rt: LibcRuntime) -> Result<(), Fail> {
+    let mut records = vec![in rt.alloc(); nothing(&[3]); 65534]?;
     records.push(under(&[1], 2))?;
     let shelf = Records::new(records.as_slice(), 8);
     check_eq(shelf.count(), 65535)?;
-    check_eq(shelf.entry(1), Ok(nothing(&[3])))?;
-    check_eq(shelf.entry(65534), Ok(nothing(&[3])))?;
-    check_eq(shelf.entry(65535), Ok(under(&[1], 2)))?;
-    records.push(under(&[1], 2))?;
-    let shelf = Records::new(records.as_slice(), 8);
-    check_eq(shelf.count(), 1)?;
-    check_eq(shelf.entry(1), Err(fault(Cause::TooLong, 0, 8, 1)))?;
-    for place in [0, 2, 65535] {
-        check_eq(shelf.entry(place), Err(fault(Cause::Outside, 0, 8, place)))?;
-    }
-    Ok(())
+    check_run(&shelf, 1, 65534, Ok(nothing(&[3])))?;
+    check_run(&shelf, 65535, 65535, Ok(under(&[1], 2)))
+}
+
+// From 65,536 records on, a shelf is one fault.
+#[test]
+fn records_65536_are_one_fault(rt: LibcRuntime) -> Result<(), Fail> {
+    let mut records = vec![in rt.alloc(); nothing(&[3]); 65536]?;
+    let long = [Err(fault(Cause::TooLong, 0, 8, 1))];
+    check_list(&Records::new(records.as_slice(), 8), 8, &long)?;
+    records.push(nothing(&[3]))?;
+    check_list(&Records::new(records.as_slice(), 8), 8, &long)
 }

@@ -59,7 +59,7 @@ fn a_turned_role_is_read_the_other_way() -> Result<(), Fail> {
     Ok(())
 }
 
-// The set of one role has it in its own direction alone, and no member where the number means nothing.
+// The set of one role has it in its own direction alone, and no member where it means nothing.
 #[test]
 fn a_set_of_one_role_has_that_member() -> Result<(), Fail> {
     for number in 0..=255u8 {
@@ -76,37 +76,24 @@ fn a_set_of_one_role_has_that_member() -> Result<(), Fail> {
     Ok(())
 }
 
-// A role outside 1 to 16 makes the empty set, and is in no set, not even in the full one.
+// Checks that no set has a role, not even the full one, and that it alone makes the empty set.
+fn check_no_member(role: DirectedRole) -> Result<(), Fail> {
+    check_eq(RoleSet::only(role), RoleSet::empty())?;
+    check(!all_roles().contains(role))
+}
+
+// A role outside 1 to 16 is no member in either direction.
 #[test]
 fn a_role_out_of_range_is_no_member() -> Result<(), Fail> {
     for number in [0, 17, 128, 129, 255] {
-        for role in [forward(number), backward(number)] {
-            check_eq(RoleSet::only(role), RoleSet::empty()).note(number)?;
-            check(!all_roles().contains(role)).note(number)?;
-        }
+        check_no_member(forward(number)).note(number)?;
+        check_no_member(backward(number)).note(number)?;
     }
     for number in [1, 16] {
-        for role in [forward(number), backward(number)] {
-            check_ne(RoleSet::only(role), RoleSet::empty()).note(number)?;
-            check(all_roles().contains(role)).note(number)?;
-        }
+        check(all_roles().contains(forward(number))).note(number)?;
+        check(all_roles().contains(backward(number))).note(number)?;
     }
     Ok(())
-}
-
-// A set includes another if it has each role of the other in the same direction.
-#[test]
-fn a_role_set_includes_its_parts() -> Result<(), Fail> {
-    let both = roles(&[forward(1), backward(16)]);
-    check(both.includes(roles(&[backward(16)])))?;
-    check(both.includes(roles(&[backward(16), forward(1)])))?;
-    check(both.includes(RoleSet::empty()))?;
-    check(both.includes(roles(&[forward(0), backward(17)])))?;
-    check(!both.includes(roles(&[forward(16)])))?;
-    check(!both.includes(roles(&[backward(1)])))?;
-    check(!RoleSet::empty().includes(both))?;
-    check(all_roles().includes(both))?;
-    check(!both.includes(all_roles()))
 }
 
 // A union has the roles of both sets and no other.
@@ -121,43 +108,44 @@ fn a_role_union_has_both_members() -> Result<(), Fail> {
     check_eq(union.union(RoleSet::empty()), union)
 }
 
+// Checks that a set is this one when it is turned, and itself when it is turned twice.
+fn check_turned(set: RoleSet, turned: RoleSet) -> Result<(), Fail> {
+    check_eq(set.turned(), turned)?;
+    check_eq(set.turned().turned(), set)
+}
+
 // A turned set has the turned roles, and turned twice it is the set itself.
 #[test]
 fn a_turned_set_has_the_turned_roles() -> Result<(), Fail> {
-    let set = roles(&[forward(1), backward(2), forward(16), backward(16)]);
-    let turned = roles(&[backward(1), forward(2), backward(16), forward(16)]);
-    check_eq(set.turned(), turned)?;
-    check_eq(set.turned().turned(), set)?;
-    check_eq(RoleSet::empty().turned(), RoleSet::empty())?;
-    check_eq(all_roles().turned(), all_roles())?;
+    check_turned(
+        roles(&[forward(1), backward(2), forward(16), backward(16)]),
+        roles(&[backward(1), forward(2), backward(16), forward(16)]),
+    )?;
+    check_turned(RoleSet::empty(), RoleSet::empty())?;
+    check_turned(all_roles(), all_roles())?;
     for number in 0..=17u8 {
-        for role in [forward(number), backward(number)] {
-            let single = RoleSet::only(role);
-            check_eq(single.turned(), RoleSet::only(role.turned())).note(number)?;
-            check_eq(single.turned().turned(), single).note(number)?;
-        }
+        let ahead = RoleSet::only(forward(number));
+        let back = RoleSet::only(backward(number));
+        check_turned(ahead, back).note(number)?;
+        check_turned(back, ahead).note(number)?;
     }
     Ok(())
 }
 
-// A set includes another if and only if the turned set includes the turned other.
+// A set includes another if it has each role of the other in its direction, also when both are turned.
 #[test]
-fn turning_keeps_inclusion() -> Result<(), Fail> {
+fn a_role_set_includes_its_parts() -> Result<(), Fail> {
+    let both = roles(&[forward(1), backward(16)]);
     let cases = [
-        (
-            roles(&[forward(1), backward(16)]),
-            roles(&[backward(16)]),
-            true,
-        ),
-        (
-            roles(&[forward(1), backward(16)]),
-            roles(&[forward(16)]),
-            false,
-        ),
-        (roles(&[forward(2)]), roles(&[backward(2)]), false),
-        (roles(&[backward(2)]), RoleSet::empty(), true),
-        (RoleSet::empty(), roles(&[backward(2)]), false),
-        (all_roles(), roles(&[forward(1), backward(1)]), true),
+        (both, roles(&[backward(16)]), true),
+        (both, roles(&[backward(16), forward(1)]), true),
+        (both, RoleSet::empty(), true),
+        (both, roles(&[forward(0), backward(17)]), true),
+        (both, roles(&[forward(16)]), false),
+        (both, roles(&[backward(1)]), false),
+        (both, all_roles(), false),
+        (all_roles(), both, true),
+        (RoleSet::empty(), both, false),
     ];
     for (set, other, expected) in cases {
         check_eq(set.includes(other), expected)?;

@@ -57,24 +57,24 @@ fn a_term_out_of_range_is_no_member() -> Result<(), Fail> {
 // A set includes another if each member of the other is one of its own.
 #[test]
 fn a_term_set_includes_its_parts() -> Result<(), Fail> {
-    let cases = [
-        (terms(&[1, 64]), terms(&[1]), true),
-        (terms(&[1, 64]), terms(&[64]), true),
-        (terms(&[1, 64]), terms(&[64, 1]), true),
-        (terms(&[1]), terms(&[1, 64]), false),
-        (terms(&[1, 2]), terms(&[2, 3]), false),
-        (terms(&[63]), terms(&[64]), false),
-        (terms(&[1]), TermSet::empty(), true),
-        (TermSet::empty(), TermSet::empty(), true),
-        (TermSet::empty(), terms(&[64]), false),
-        (TermSet::empty(), terms(&[0, 65]), true),
-        (all_terms(), terms(&[1, 32, 33, 64]), true),
-        (terms(&[1, 32, 33, 64]), all_terms(), false),
+    let cases: [(&[u8], &[u8], bool); 10] = [
+        (&[1, 64], &[1], true),
+        (&[1, 64], &[64], true),
+        (&[1, 64], &[64, 1], true),
+        (&[1], &[1, 64], false),
+        (&[1, 2], &[2, 3], false),
+        (&[63], &[64], false),
+        (&[1], &[], true),
+        (&[], &[], true),
+        (&[], &[64], false),
+        (&[], &[0, 65], true),
     ];
     for (set, other, expected) in cases {
-        check_eq(set.includes(other), expected).note(format_args!("{set:?} {other:?}"))?;
+        let included = terms(set).includes(terms(other));
+        check_eq(included, expected).note(format_args!("{set:?} {other:?}"))?;
     }
-    Ok(())
+    check(all_terms().includes(terms(&[1, 32, 33, 64])))?;
+    check(!terms(&[1, 32, 33, 64]).includes(all_terms()))
 }
 
 // A union has the members of both sets and no other.

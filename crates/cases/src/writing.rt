@@ -1,11 +1,12 @@
 // What is written of a shelf, and what is refused.
+use crate::checking::check_outside;
+use crate::checking::check_run;
 use crate::making::TWO_ENTRIES;
 use crate::making::all_terms;
 use crate::making::at_most_one;
 use crate::making::backward;
 use crate::making::catalogue_bytes;
 use crate::making::exists;
-use crate::making::fault;
 use crate::making::forward;
 use crate::making::longest_body;
 use crate::making::nothing;
@@ -15,20 +16,15 @@ use crate::making::under;
 use catalogue::reader::Catalogue;
 use catalogue::reader::CatalogueShelf;
 use numbers::term::Term;
-use numbers::term_set::TermSetDebug;
-use numbers::term_set::TermSetPartialEq;
-use shelf::fault::Cause;
-use shelf::fault::ShelfFaultDebug;
-use shelf::fault::ShelfFaultPartialEq;
+use shelf::form::Axiom;
 use shelf::form::Form;
 use shelf::form::FormClone;
-use shelf::form::FormDebug;
-use shelf::form::FormPartialEq;
 use shelf::joined::Joined;
 use shelf::joined::JoinedShelf;
 use shelf::records::Records;
 use shelf::records::RecordsShelf;
 use shelf::shelf::Shelf;
+use std::alloc::AllocError;
 use std::alloc::Global;
 use std::test::*;
 use writer::WriteRefusal;
@@ -70,16 +66,16 @@ fn refusals_have_their_numbers() -> Result<(), Fail> {
 // A faultless catalogue is written again the same, and the bytes after it stay.
 #[test]
 fn a_catalogue_is_written_again(rt: LibcRuntime) -> Result<(), Fail> {
-    let shelf = Catalogue::new(&TWO_ENTRIES, 7);
-    check_written(rt.alloc(), &shelf, &TWO_ENTRIES, 0)?;
-    check_written(rt.alloc(), &shelf, &TWO_ENTRIES, 1)?;
-    check_written(rt.alloc(), &shelf, &TWO_ENTRIES, 100)
+    let shelf = Catalogue::new(TWO_ENTRIES, 7);
+    check_written(rt.alloc(), &shelf, TWO_ENTRIES, 0)?;
+    check_written(rt.alloc(), &shelf, TWO_ENTRIES, 1)?;
+    check_written(rt.alloc(), &shelf, TWO_ENTRIES, 100)
 }
 
 // A buffer that is too short is refused and stays as it was.
 #[test]
 fn a_short_buffer_stays(rt: LibcRuntime) -> Result<(), Fail> {
-    let shelf = Catalogue::new(&TWO_ENTRIES, 7);
+    let shelf = Catalogue::new(TWO_ENTRIES, 7);
     for room in [0, 1, 2, 10, 16] {
         check_refused(rt.alloc(), &shelf, room, WriteRefusal::TooShort)?;
     }
@@ -135,11 +131,7 @@ fn each_form_is_written(rt: LibcRuntime) -> Result<(), Fail> {
 fn joined_shelves_are_written(rt: LibcRuntime) -> Result<(), Fail> {
     let heap = rt.alloc();
     let records = [nothing(&[3])];
-    let shelf = Joined::new(
-        Records::new(&records, 8),
-        Catalogue::new(&TWO_ENTRIES, 7),
-        9,
-    );
+    let shelf = Joined::new(Records::new(&records, 8), Catalogue::new(TWO_ENTRIES, 7), 9);
     let bytes = catalogue_bytes(heap, &[&[2, 0, 0, 3], &[1, 0, 2, 1], &[6, 1, 130]])?;
     check_written(heap, &shelf, bytes.as_slice(), 5)?;
     check_refused(heap, &shelf, 24, WriteRefusal::TooShort)
@@ -151,7 +143,7 @@ fn a_fault_is_not_written(rt: LibcRuntime) -> Result<(), Fail> {
     let records = [under(&[1], 2), nothing(&[3]), under(&[1], 65)];
     let faulty = Records::new(&records, 8);
     let unreadable = Catalogue::new(&[0, 0, 0], 7);
-    let joined = Joined::new(Catalogue::new(&TWO_ENTRIES, 7), faulty, 9);
+    let joined = Joined::new(Catalogue::new(TWO_ENTRIES, 7), faulty, 9);
     for room in [0, 1, 100] {
         check_refused(rt.alloc(), &faulty, room, WriteRefusal::Unwritable)?;
         check_refused(rt.alloc(), &unreadable, room, WriteRefusal::Unwritable)?;
@@ -163,43 +155,52 @@ fn a_fault_is_not_written(rt: LibcRuntime) -> Result<(), Fail> {
 // More than 512 entries are not written, however large or small the buffer is.
 #[test]
 fn entries_513_are_not_written(rt: LibcRuntime) -> Result<(), Fail> {
-    let heap = rt.alloc();
-    let records = vec![in heap; nothing(&[]); 513]?;
+    let records = vec![in rt.alloc(); nothing(&[]); 513]?;
     let shelf = Records::new(records.as_slice(), 8);
     check_eq(shelf.count(), 513)?;
-    for room in [0, 2, 4000] {
-        check_refused(heap, &shelf, room, WriteRefusal::Unwritable)?;
+    for room in [0, 2, 3593, 4000] {
+        check_refused(rt.alloc(), &shelf, room, WriteRefusal::Unwritable)?;
     }
-    let many = vec![in heap; nothing(&[]); 32768]?;
-    let half = Records::new(many.as_slice(), 8);
-    check_refused(heap, &half, 4000, WriteRefusal::Unwritable)?;
-    check_refused(
-        heap,
-        &Joined::new(half, half, 9),
-        4000,
-        WriteRefusal::Unwritable,
-    )
+    Ok(())
 }
 
-// The largest catalogue, 512 entries of 67 bytes, is written into 36,354 bytes and read back.
+// A join that is too long is not written, although it has one entry.
+#[test]
+fn a_long_join_is_not_written(rt: LibcRuntime) -> Result<(), Fail> {
+    let records = vec![in rt.alloc(); nothing(&[]); 32768]?;
+    let half = Records::new(records.as_slice(), 8);
+    let shelf = Joined::new(half, half, 9);
+    check_eq(shelf.count(), 1)?;
+    check_refused(rt.alloc(), &shelf, 4000, WriteRefusal::Unwritable)
+}
+
+// The axiom that nothing carries all 64 terms, 512 times.
+fn largest_records(heap: Global) -> Result<Vec<Axiom>, AllocError> {
+    vec![in heap; Form::Nothing { left: all_terms() }; 512]
+}
+
+// The largest catalogue, 512 entries of 67 bytes, is written into 36,354 bytes and no fewer.
 #[test]
 fn the_largest_catalogue_is_written(rt: LibcRuntime) -> Result<(), Fail> {
-    let heap = rt.alloc();
-    let axiom = Form::Nothing { left: all_terms() };
-    let records = vec![in heap; axiom; 512]?;
+    let records = largest_records(rt.alloc())?;
     let shelf = Records::new(records.as_slice(), 8);
-    let body = longest_body(heap)?;
-    let bodies = vec![in heap; body.as_slice(); 512]?;
-    let bytes = catalogue_bytes(heap, bodies.as_slice())?;
+    let body = longest_body(rt.alloc())?;
+    let bodies = vec![in rt.alloc(); body.as_slice(); 512]?;
+    let bytes = catalogue_bytes(rt.alloc(), bodies.as_slice())?;
     check_eq(bytes.len(), 36354)?;
-    check_written(heap, &shelf, bytes.as_slice(), 1)?;
-    check_refused(heap, &shelf, 36353, WriteRefusal::TooShort)?;
-    let mut buffer = vec![in heap; 0u8; 36354]?;
-    check_eq(write(&shelf, buffer.as_mut_slice()), Ok(36354))?;
+    check_written(rt.alloc(), &shelf, bytes.as_slice(), 1)?;
+    check_refused(rt.alloc(), &shelf, 36353, WriteRefusal::TooShort)
+}
+
+// The largest catalogue is read back as it was written.
+#[test]
+fn the_largest_catalogue_is_read_back(rt: LibcRuntime) -> Result<(), Fail> {
+    let records = largest_records(rt.alloc())?;
+    let mut buffer = vec![in rt.alloc(); 0u8; 36354]?;
+    let written = write(&Records::new(records.as_slice(), 8), buffer.as_mut_slice());
+    check_eq(written, Ok(36354))?;
     let back = Catalogue::new(buffer.as_slice(), 7);
     check_eq(back.count(), 512)?;
-    for place in 1..=512u16 {
-        check_eq(back.entry(place), Ok(axiom)).note(place)?;
-    }
-    check_eq(back.entry(513), Err(fault(Cause::Outside, 0, 7, 513)))
+    check_run(&back, 1, 512, Ok(Form::Nothing { left: all_terms() }))?;
+    check_outside(&back, 7, &[0, 513])
 }
