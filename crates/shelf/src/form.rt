@@ -1,5 +1,6 @@
 // The six forms of an axiom.
 ghost use mathlib.Core.Path.{_≡_};
+ghost use Rattle.std.specs.Orderings.{Decides};
 ghost use Rattle.shelf.specs.Axioms.{is-filler, roles-sound, right-sound};
 use numbers::role::DirectedRole;
 use numbers::role::DirectedRoleDebug;
@@ -8,6 +9,7 @@ use numbers::term::Term;
 use numbers::term::TermDebug;
 use numbers::term::TermPartialEq;
 use numbers::term_set::TermSet;
+use numbers::term_set::TermSetPartialEq;
 
 // An axiom over a left side of the kind L. A filler is a term, or `None` for everything.
 #[derive(Clone, Copy, PartialEq, Debug)]
@@ -48,6 +50,13 @@ pub enum Form<L> {
 
 // An axiom whose left side is a set of terms.
 pub type Axiom = Form<TermSet>;
+
+// Whether two axioms are the same: their form and all their parts agree.
+pub fn same(a: &Axiom, b: &Axiom) -> bool
+    ensures { λ r. ⌜ Decides r (now (a .entry) ≡ now (b .entry)) ⌝ }
+{
+    *a == *b
+}
 
 // Whether the filler is everything, or a term that means something.
 fn filler_in_range(filler: Option<Term>) -> bool
