@@ -1,5 +1,5 @@
 // What a role set has as members, by operations on its word.
-ghost use Rattle.std.specs.Prelude.{◌≡◌, not, Decides, ◌==◌, bit_and, nat_eq};
+ghost use Rattle.std.specs.Prelude.{◌≡◌, ◌↔◌, not, IsTrue, ◌==◌, bit_and, nat_eq};
 ghost use Rattle.std.specs.Ordering.{on};
 ghost use Rattle.numbers.specs.Bits.{word_single};
 ghost use Rattle.numbers.specs.Roles.{turn, role_number};
@@ -90,7 +90,11 @@ impl PartialEq for RoleSet {
 
     ghost laws = { first_of (Prim.search (comparing, rules), Prim.grind (arith, Self.row.coded.inj)) };
 
-    fn eq(&self, other: &RoleSet) -> bool {
+    // Sets are equal exactly if they are the same.
+    fn eq(&self, other: &RoleSet) -> bool
+        ensures compared { result ≡ (self.now.bits == other.now.bits) }
+        ensures same { IsTrue result ↔ (self.now ≡ other.now) }
+    {
         self.bits == other.bits
     }
 }

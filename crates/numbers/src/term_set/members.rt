@@ -1,5 +1,5 @@
 // What a term set has as members, by operations on its word.
-ghost use Rattle.std.specs.Prelude.{◌≡◌, not, Decides, ◌==◌, bit_and, nat_eq};
+ghost use Rattle.std.specs.Prelude.{◌≡◌, ◌↔◌, not, IsTrue, ◌==◌, bit_and, nat_eq};
 ghost use Rattle.std.specs.Ordering.{on};
 ghost use Rattle.numbers.specs.Bits.{word_single};
 ghost use Rattle.numbers.specs.TermSets.{term_word, term_has, term_number, term_none, term_single, term_covers, term_joined};
@@ -80,7 +80,11 @@ impl PartialEq for TermSet {
 
     ghost laws = { first_of (Prim.search (comparing, rules), Prim.grind (arith, Self.row.coded.inj)) };
 
-    fn eq(&self, other: &TermSet) -> bool {
+    // Sets are equal exactly if they are the same.
+    fn eq(&self, other: &TermSet) -> bool
+        ensures compared { result ≡ (self.now.bits == other.now.bits) }
+        ensures same { IsTrue result ↔ (self.now ≡ other.now) }
+    {
         self.bits == other.bits
     }
 }

@@ -7,7 +7,7 @@ use Rattle.numbers.proofs.role_set.RoleSet.turned.Goals as goal
 
 pub returns : goal.returns
 returns c =
-    let value = c.of-word.ensures ∙ ap role_word c.exchanged.ensures in
+    let value = c.of_word.ensures ∙ ap role_word c.exchanged.ensures in
     record {
       value = value;
       members = λ role. ap (λ (s : RoleSet). role_has s (role_number role)) value ∙ turned_members c.args.self role;
