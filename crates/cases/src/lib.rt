@@ -1,3 +1,5 @@
+#![tactic(auto)]
+
 // What sets, catalogues, records, joined shelves and the writer answer on examples.
 #[cfg(test)]
 mod bodies;

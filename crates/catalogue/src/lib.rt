@@ -1,3 +1,5 @@
+#![tactic(auto)]
+
 // The catalogue format: a shelf over bytes.
 mod body;
 mod contents;

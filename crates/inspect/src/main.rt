@@ -1,3 +1,5 @@
+#![tactic(auto)]
+
 // Lists the entries of a catalogue that is read from standard input.
 mod listing;
 mod statement;

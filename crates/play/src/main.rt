@@ -1,3 +1,5 @@
+#![tactic(auto)]
+
 // Asks shelves and sessions what a script says, a call to a line, and prints each line again with its answer.
 mod answer;
 mod opening;

@@ -1,3 +1,5 @@
+#![tactic(auto)]
+
 // A session: tables that a caller lends, and the calls that fill them.
 mod lookup;
 mod packet;

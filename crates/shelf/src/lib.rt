@@ -1,3 +1,5 @@
+#![tactic(auto)]
+
 // Shelves: lists of axioms or faults that can be asked.
 pub mod fault;
 pub mod form;

@@ -1,3 +1,5 @@
+#![tactic(auto)]
+
 // Writes a shelf as a catalogue.
 ghost use Rattle.std.specs.Prelude.{◌≡◌, ℕ, ◌+◌, ◌*◌, ◌^◌, ◌<◌, ◌≤◌, List, [], ◌++◌, length, take, drop, IfOk, IfErr, slice_index_or};
 ghost use Rattle.catalogue.specs.Catalogues.{Bytes, catalogue_list};

@@ -6,4 +6,4 @@ returns g c =
     let s = c.args.self.now in
     let xs = g.A.Shelf.list s.first in
     let ys = g.B.Shelf.list s.second in
-    c.limited-count.ensures s.mark (xs ++ ys) (omega (arith, length-append xs ys, c.total.ensures))
+    c.limited_count.ensures s.mark (xs ++ ys) (omega (arith, length-append xs ys, c.total.ensures))
