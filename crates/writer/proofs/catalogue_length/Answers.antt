@@ -8,8 +8,8 @@ pub loop-i-preserved : goal.loop-i-preserved
 loop-i-preserved g c =
     let es = g.S.Shelf.list c.args.shelf.now in
     let within : c.loop-i.i < length (entry_bodies es) = omega (arith, length-map es entry_bytes, c.loop-i-test.true, c.count-i-end.ensures) in (
-      omega (arith, c.loop-i.invariant.0, c.draft-at.ensures.len, offset_next (entry_bodies es) c.loop-i.i within),
-      omega (arith, c.loop-i.invariant.1, c.draft-at.ensures.short),
+      omega (arith, c.loop-i.invariant.0, c.draft_at.ensures.len, offset_next (entry_bodies es) c.loop-i.i within),
+      omega (arith, c.loop-i.invariant.1, c.draft_at.ensures.short),
     )
 
 pub returns : goal.returns

@@ -12,13 +12,13 @@ pub returns : goal.returns
 returns g c =
     let es = g.S.Shelf.list c.args.shelf.now in
     let old = c.args.buffer.now in
-    let len = c.catalogue-length-len.ensures in
-    let faults = sym c.is-faultless.ensures ∙ c.if-not-is-faultless.false in
+    let len = c.catalogue_length-len.ensures in
+    let faults = sym c.is_faultless.ensures ∙ c.if-not-is_faultless.false in
     let few = and_from (leb (length es) 512) (faultless es) (le-leb (length es) 512 (omega (arith, c.count-count.ensures, c.if-count-gt512.false))) faults in
     let counted : c.count-count.result ≡ length (entry_bodies es) = omega (arith, c.count-count.ensures, length-map es entry_bytes) in
     let begun = c.put.ensures ∙ ap (λ (n : ℕ). n / 256 ∷ n % 256 ∷ drop 2 old) counted in
-    let written = c.write-bodies.ensures old (c.write-lines.ensures old begun) ∙ ap (filled (catalogue_bytes es) old) (sym len) in
-    let front = filled_front (catalogue_bytes es) old c.write-bodies.new.buffer c.catalogue-length-len.result written (sym len) in
+    let written = c.write_bodies.ensures old (c.write_lines.ensures old begun) ∙ ap (filled (catalogue_bytes es) old) (sym len) in
+    let front = filled_front (catalogue_bytes es) old c.write_bodies.new.buffer c.catalogue_length-len.result written (sym len) in
     record {
       value = ap Ok len ∙ sym (answer_ok es (length old) few (omega (arith, len, c.if-len-buffer.false)));
       buffer = written;

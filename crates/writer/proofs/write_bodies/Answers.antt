@@ -22,7 +22,7 @@ put-requires g c =
     let es = g.S.Shelf.list c.args.shelf.now in
     let bs = entry_bodies es in
     let within : c.loop-i.i < length bs = omega (arith, length-map es entry_bytes, c.loop-i-test.true, c.count-count.ensures) in
-    let part = whole c.draft-at-draft.result.len c.draft-at-draft.result.bytes ∙ c.draft-at-draft.ensures.bytes in
+    let part = whole c.draft_at-draft.result.len c.draft_at-draft.result.bytes ∙ c.draft_at-draft.ensures.bytes in
     omega (arith, ap length part, c.loop-i.invariant.0, offset-within bs c.loop-i.i within, c.requires.room, c.loop-i.auto.buffer)
 
 pub loop-i-preserved : goal.loop-i-preserved
@@ -33,17 +33,17 @@ loop-i-preserved g c =
     let k : ℕ = c.loop-i.at in
     let inv = c.loop-i.invariant in
     let within : i < length bs = omega (arith, length-map es entry_bytes, c.loop-i-test.true, c.count-count.ensures) in (
-      omega (arith, inv.0, c.draft-at-draft.ensures.len, offset_next bs i within),
-      omega (arith, inv.1, c.draft-at-draft.ensures.short),
+      omega (arith, inv.0, c.draft_at-draft.ensures.len, offset_next bs i within),
+      omega (arith, inv.1, c.draft_at-draft.ensures.short),
       λ old e.
           let so_far = filled (catalogue_bytes es) old k in
-          let d = c.draft-at-draft.result in
-          let part = whole d.len d.bytes ∙ c.draft-at-draft.ensures.bytes in
+          let d = c.draft_at-draft.result in
+          let part = whole d.len d.bytes ∙ c.draft_at-draft.ensures.bytes in
           c.put.ensures
           ∙ ap (λ (b : List ℕ). take k b ++ (take (d.len - 0) d.bytes ++ drop (k + length (take (d.len - 0) d.bytes)) b)) (inv.2 old e)
           ∙ ap (λ (l : List ℕ). take k so_far ++ (l ++ drop (k + length l) so_far)) part
           ∙ filled_step (catalogue_bytes es) old (body_front bs i) (get_or bs i []) (body_rest bs i) k (body_split bs i within) (body_before bs i within ∙ sym inv.0)
-          ∙ ap (λ (n : ℕ). filled (catalogue_bytes es) old (k + n)) (sym c.draft-at-draft.ensures.len),
+          ∙ ap (λ (n : ℕ). filled (catalogue_bytes es) old (k + n)) (sym c.draft_at-draft.ensures.len),
     )
 
 pub returns : goal.returns

@@ -13,7 +13,7 @@ loop-i-init g c =
 pub line-requires : goal.line-requires
 line-requires g c = record {
   start = omega (arith, c.loop-i.invariant.1, c.loop-i-test.true, c.count-count.ensures, c.requires.few);
-  size = omega (arith, c.draft-at-size.ensures.short);
+  size = omega (arith, c.draft_at-size.ensures.short);
 }
 
 pub put-requires : goal.put-requires
@@ -29,9 +29,9 @@ loop-i-preserved g c =
     let k : ℕ = 2 + 4 * i in
     let inv = c.loop-i.invariant in
     let within : i < length bs = omega (arith, length-map es entry_bytes, c.loop-i-test.true, c.count-count.ensures) in
-    let line_is : c.line.result ≡ line_part bs i = c.line.ensures ∙ ap₂ (λ (a b : ℕ). two_bytes a ++ two_bytes b) inv.0 c.draft-at-size.ensures.len in (
-      omega (arith, inv.0, c.draft-at-size.ensures.len, offset_next bs i within),
-      omega (arith, inv.1, c.draft-at-size.ensures.short),
+    let line_is : c.line.result ≡ line_part bs i = c.line.ensures ∙ ap₂ (λ (a b : ℕ). two_bytes a ++ two_bytes b) inv.0 c.draft_at-size.ensures.len in (
+      omega (arith, inv.0, c.draft_at-size.ensures.len, offset_next bs i within),
+      omega (arith, inv.1, c.draft_at-size.ensures.short),
       λ old e.
           let so_far = filled (catalogue_bytes es) old k in
           c.put.ensures

@@ -8,10 +8,10 @@ use Rattle.catalogue.proofs.body.left_terms.Goals as goal
 later : (a i : ℕ) → a + (i + 1) ≡ suc (a + i)
 later a i = omega arith
 
-pub returns-then-not-is-next : goal.returns-then-not-is-next
-returns-then-not-is-next c =
+pub returns-then-not-is_next : goal.returns-then-not-is_next
+returns-then-not-is_next c =
     let i = c.loop-i.i in
-    sym (left_stuck (c.args.at + 3 + i) c.loop-i.before c.loop-i.set c.args.left.now i c.loop-i-test.true (sym c.is-next.ensures ∙ c.if-not-is-next.true))
+    sym (left_stuck (c.args.at + 3 + i) c.loop-i.before c.loop-i.set c.args.left.now i c.loop-i-test.true (sym c.is_next.ensures ∙ c.if-not-is_next.true))
     ∙ c.loop-i.invariant.2
 
 pub loop-i-preserved : goal.loop-i-preserved
@@ -20,7 +20,7 @@ loop-i-preserved c =
     let left = c.args.left.now in
     let b = get_or left i 0 in
     let at = c.args.at + 3 in
-    let next = sym c.is-next.ensures ∙ c.if-not-is-next.false in
+    let next = sym c.is_next.ensures ∙ c.if-not-is_next.false in
     let parts = next_parts b c.loop-i.before next in (
       omega (arith, parts.0),
       parts.1,

@@ -12,7 +12,7 @@ returns-in-Ok c =
     let bytes = c.args.bytes.now in
     let len : ℕ = c.in-Ok.len in
     let made_of = same_list c.new.result.bytes.now bytes c.new.result.mark 0 c.new.ensures.bytes c.new.ensures.mark in
-    let same = c.in-Ok.ensures.again bytes 0 c.hold-bytes.ensures (sym made_of) in
+    let same = c.in-Ok.ensures.again bytes 0 c.hold_bytes.ensures (sym made_of) in
     let whole : take (len - 0) c.write.new.buffer ≡ bytes = ap (λ (n : ℕ). take n c.write.new.buffer) (less len) ∙ same in
     (slice_eq-Decides Decides-eqb (take (len - 0) c.write.new.buffer) bytes c.eq.result c.eq.ensures).1 whole
     ∙ sym (taken_faultless (catalogue_list bytes 0) (length c.args.buffer.now) len (c.in-Ok.ensures.value ∙ ap (λ (es : List Entry). write_answer es (length c.args.buffer.now)) made_of))
@@ -25,4 +25,4 @@ returns-in-Err c =
     let bytes = c.args.bytes.now in
     let room : ℕ = length c.args.buffer.now in
     let made_of = same_list c.new.result.bytes.now bytes c.new.result.mark 0 c.new.ensures.bytes c.new.ensures.mark in
-    refused_faulty bytes 0 room c.in-Err.field-0 c.hold-bytes.ensures c.requires (c.in-Err.ensures.value ∙ ap (λ (es : List Entry). write_answer es room) made_of)
+    refused_faulty bytes 0 room c.in-Err.field-0 c.hold_bytes.ensures c.requires (c.in-Err.ensures.value ∙ ap (λ (es : List Entry). write_answer es room) made_of)

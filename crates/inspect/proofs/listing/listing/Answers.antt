@@ -10,9 +10,9 @@ pub returns : goal.returns
 returns c =
     let es = catalogue_list c.args.bytes.now 0 in
     let listed : catalogue_list c.new-catalogue.result.bytes.now c.new-catalogue.result.mark ≡ es = same_list c.new-catalogue.result.bytes.now c.args.bytes.now c.new-catalogue.result.mark 0 c.new-catalogue.ensures.bytes c.new-catalogue.ensures.mark in
-    let lines = c.in-ok-faults.ensures in
-    whole_text es (string_bytes c.new-text.result) (string_bytes c.push-lines.new.text) (string_bytes c.push-counts.new.text) (string_bytes c.push-end.new.text)
-    c.count.result c.in-ok-faults.faults c.is-written-again-again.result c.new-text.ensures.bytes
+    let lines = c.in_ok-faults.ensures in
+    whole_text es (string_bytes c.new-text.result) (string_bytes c.push_lines.new.text) (string_bytes c.push_counts.new.text) (string_bytes c.push_end.new.text)
+    c.count.result c.in_ok-faults.faults c.is_written_again-again.result c.new-text.ensures.bytes
     (lines.0 ∙ ap (λ (xs : List Entry). string_bytes c.new-text.result ++ lines_text 1 xs) listed)
-    c.in-ok-push-counts.ensures c.in-ok-push-end.ensures
-    (c.count.ensures ∙ ap (λ (xs : List Entry). length xs) listed) (lines.1 ∙ ap faults_in listed) c.is-written-again-again.ensures
+    c.in_ok-push_counts.ensures c.in_ok-push_end.ensures
+    (c.count.ensures ∙ ap (λ (xs : List Entry). length xs) listed) (lines.1 ∙ ap faults_in listed) c.is_written_again-again.ensures

@@ -6,6 +6,6 @@ use Rattle.inspect.proofs.listing.push_end.Goals as goal
 pub returns-then-again : goal.returns-then-again
 returns-then-again c =
     let start = string_bytes c.args.text.now in
-    let end = string_bytes c.push-str.new.self in
-    subst (λ (b : Bool). IfOk c.push-str.result (λ _. end ≡ start ++ end_text b)) (sym c.if-again.true)
-    (pushed_once c.push-str.result start end (codes ", written again the same\n") c.push-str.ensures.bytes)
+    let end = string_bytes c.push_str.new.self in
+    subst (λ (b : Bool). IfOk c.push_str.result (λ _. end ≡ start ++ end_text b)) (sym c.if-again.true)
+    (pushed_once c.push_str.result start end (codes ", written again the same\n") c.push_str.ensures.bytes)

@@ -1,8 +1,8 @@
 use Rattle.std.proofs.Common.{append_assoc, rules}
 use Rattle.inspect.proofs.statement.push_role.Goals as goal
 
-pub returns-in-ok-push-str : goal.returns-in-ok-push-str
-returns-in-ok-push-str c = search (rules, append_assoc)
+pub returns-in_ok-push_str : goal.returns-in_ok-push_str
+returns-in_ok-push_str c = search (rules, append_assoc)
 
-pub returns-in-ok-push-str-2 : goal.returns-in-ok-push-str-2
-returns-in-ok-push-str-2 c = search (rules, append_assoc)
+pub returns-in_ok-push_str-2 : goal.returns-in_ok-push_str-2
+returns-in_ok-push_str-2 c = search (rules, append_assoc)

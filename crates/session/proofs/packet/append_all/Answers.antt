@@ -5,8 +5,8 @@ use Rattle.session.specs.Taking.{axioms_of}
 use Rattle.session.proofs.Packets.{listed, axioms_next, axioms_end, entry_longer}
 use Rattle.session.proofs.packet.append_all.Goals as goal
 
-pub append-entry-requires : goal.append-entry-requires
-append-entry-requires g c = omega (arith, c.loop-i.invariant.1, c.loop-i-test.true, c.count-i-end.ensures)
+pub append_entry-requires : goal.append_entry-requires
+append_entry-requires g c = omega (arith, c.loop-i.invariant.1, c.loop-i-test.true, c.count-i-end.ensures)
 
 pub loop-i-preserved : goal.loop-i-preserved
 loop-i-preserved g c =
@@ -15,9 +15,9 @@ loop-i-preserved g c =
     let e = c.entry.result in
     let old = rows c.loop-i.table in
     let at_i = listed es (g.S.Shelf.mark c.args.shelf.now) i (omega (arith, c.loop-i-test.true, c.count-i-end.ensures)) ∙ ap Some (sym c.entry.ensures) in (
-      ap (λ (xs : List Axiom). xs ++ axioms_of (drop (i + 1) es)) c.append-entry.ensures.rows ∙ axioms_next old es i e at_i ∙ c.loop-i.invariant.0,
-      omega (arith, ap length c.append-entry.ensures.rows, entry_longer old e, c.append-entry.ensures.room, c.loop-i.invariant.1),
-      c.append-entry.ensures.room ∙ c.loop-i.invariant.2,
+      ap (λ (xs : List Axiom). xs ++ axioms_of (drop (i + 1) es)) c.append_entry.ensures.rows ∙ axioms_next old es i e at_i ∙ c.loop-i.invariant.0,
+      omega (arith, ap length c.append_entry.ensures.rows, entry_longer old e, c.append_entry.ensures.room, c.loop-i.invariant.1),
+      c.append_entry.ensures.room ∙ c.loop-i.invariant.2,
     )
 
 pub returns : goal.returns

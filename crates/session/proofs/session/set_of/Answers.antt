@@ -8,13 +8,13 @@ use Rattle.numbers.specs.declared.term_set.TermSet.{TermSet}
 use Rattle.session.specs.Wanting.{gathered}
 use Rattle.session.proofs.session.set_of.Goals as goal
 
-pub returns-then-not-is-term : goal.returns-then-not-is-term
-returns-then-not-is-term c =
+pub returns-then-not-is_term : goal.returns-then-not-is_term
+returns-then-not-is_term c =
     let n = c.args.n in
     let i = c.loop-term.term-index in
     let t : Term = get_or c.args.terms.now i (record { 0 = 0 }) in
     sym (at_drop_more (gathered n c.loop-term.set) c.args.terms.now i (record { 0 = 0 }) c.loop-term-test.true
-    ∙ cond-false (possible n t.0) _ _ (sym c.if-not-is-term.ensures)) ∙ c.loop-term.invariant
+    ∙ cond-false (possible n t.0) _ _ (sym c.if-not-is_term.ensures)) ∙ c.loop-term.invariant
 
 pub loop-term-preserved : goal.loop-term-preserved
 loop-term-preserved c =
@@ -24,7 +24,7 @@ loop-term-preserved c =
     let t : Term = get_or c.args.terms.now i (record { 0 = 0 }) in
     ap (λ (s : TermSet). gathered n s rest) (c.union-set.ensures ∙ ap (term_joined c.loop-term.set) c.only.ensures)
     ∙ sym (at_drop_more (gathered n c.loop-term.set) c.args.terms.now i (record { 0 = 0 }) c.loop-term-test.true
-    ∙ cond-true (possible n t.0) _ _ (sym c.if-not-is-term.ensures)) ∙ c.loop-term.invariant
+    ∙ cond-true (possible n t.0) _ _ (sym c.if-not-is_term.ensures)) ∙ c.loop-term.invariant
 
 pub returns : goal.returns
 returns c = sym (at_drop_all (gathered c.args.n c.loop-term.set) c.args.terms.now c.loop-term.term-index c.loop-term-test.false) ∙ c.loop-term.invariant

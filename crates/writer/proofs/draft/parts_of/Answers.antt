@@ -11,6 +11,6 @@ pub returns-in-RoleUnder : goal.returns-in-RoleUnder
 returns-in-RoleUnder c =
     let empty = ap (λ (s : TermSet). left_bytes s) c.empty.ensures ∙ none_bytes in
     ap body_bytes c.in-RoleUnder.is
-    ∙ same (role_byte c.in-RoleUnder.lower) c.role-byte-in-RoleUnder.result (role_byte c.in-RoleUnder.upper) c.role-byte-in-RoleUnder-2.result (left_bytes c.empty.result)
-    c.role-byte-in-RoleUnder.ensures c.role-byte-in-RoleUnder-2.ensures empty
+    ∙ same (role_byte c.in-RoleUnder.lower) c.role_byte-in-RoleUnder.result (role_byte c.in-RoleUnder.upper) c.role_byte-in-RoleUnder-2.result (left_bytes c.empty.result)
+    c.role_byte-in-RoleUnder.ensures c.role_byte-in-RoleUnder-2.ensures empty
     ∙ sym c.new-in-RoleUnder.ensures

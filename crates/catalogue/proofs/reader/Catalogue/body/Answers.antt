@@ -10,8 +10,8 @@ use Rattle.catalogue.proofs.CatalogueBodies.{counted_some, counted_none, body_un
 use Rattle.catalogue.proofs.reader.Catalogue.body.Goals as goal
 use Rattle.catalogue.proofs.reader.Catalogue.body.Goals.{then-place-eq1, else-place-eq1}
 
-pub returns-in-default : goal.returns-in-default
-returns-in-default c =
+pub returns-in_default : goal.returns-in_default
+returns-in_default c =
     let bs = c.args.self.now.bytes.now in
     let m = c.args.self.now.mark in
     let p = c.args.place in
@@ -21,15 +21,15 @@ returns-in-default c =
       | else-place-eq1 w ↦ w.cause-is ∙ sym (cond-false (eqb p 1) Contents Outside (ne_eqb p 1 w.if-place-eq1.false))
     ] in
     ap Err (c.from.ensures ∙ ap (λ (x : Cause). in_shelf (at_byte x 0) (origin m p)) caused)
-    ∙ sym (body_unread bs m p (counted_none (readable bs) (entries bs) c.in-default.ensures))
+    ∙ sym (body_unread bs m p (counted_none (readable bs) (entries bs) c.in_default.ensures))
 
-pub returns-then-not-is-place : goal.returns-then-not-is-place
-returns-then-not-is-place c =
+pub returns-then-not-is_place : goal.returns-then-not-is_place
+returns-then-not-is_place c =
     let bs = c.args.self.now.bytes.now in
     let p = c.args.place in
     let said = counted_some (readable bs) c.in-Some.count (entries bs) c.in-Some.ensures in
-    ap Err c.from-then-not-is-place.ensures
-    ∙ sym (body_outside bs c.args.self.now.mark p said.0 (ap (λ (n : ℕ). possible n p) (sym said.1) ∙ sym c.is-place.ensures ∙ c.if-not-is-place.true))
+    ap Err c.from-then-not-is_place.ensures
+    ∙ sym (body_outside bs c.args.self.now.mark p said.0 (ap (λ (n : ℕ). possible n p) (sym said.1) ∙ sym c.is_place.ensures ∙ c.if-not-is_place.true))
 
 pub returns-in-Err : goal.returns-in-Err
 returns-in-Err c =
@@ -38,4 +38,4 @@ returns-in-Err c =
     let p = c.args.place in
     let said = counted_some (readable bs) c.in-Some.count (entries bs) c.in-Some.ensures in
     ap Err c.from-in-Err.ensures ∙ ap (part_of m p (start_of bs (p - 1))) c.in-Err.ensures
-    ∙ sym (body_inside bs m p said.0 (ap (λ (n : ℕ). possible n p) (sym said.1) ∙ sym c.is-place.ensures ∙ c.if-not-is-place.false))
+    ∙ sym (body_inside bs m p said.0 (ap (λ (n : ℕ). possible n p) (sym said.1) ∙ sym c.is_place.ensures ∙ c.if-not-is_place.false))

@@ -27,12 +27,12 @@ returns-in-Some c =
     ∙ sym (change_at (rows s.contexts) i (holding words t) row (sym c.in-Some.ensures)))
     ∙ ap (added words (model s)) (sym c.in-Held.is)
 
-pub returns-in-default : goal.returns-in-default
-returns-in-default c =
+pub returns-in_default : goal.returns-in_default
+returns-in_default c =
     let s = c.args.self.now in
     let i = c.in-Held.context in
     contexts_same words (model s) (room s.contexts) (rows s.contexts) (change i (holding words c.in-Held.terms) (rows s.contexts)) refl
-    (sym (change_past (rows s.contexts) i (holding words c.in-Held.terms) c.in-default.ensures))
+    (sym (change_past (rows s.contexts) i (holding words c.in-Held.terms) c.in_default.ensures))
     ∙ ap (added words (model s)) (sym c.in-Held.is)
 
 pub returns-in-Some-get : goal.returns-in-Some-get
@@ -43,10 +43,10 @@ returns-in-Some-get c =
     (c.set-in-Some-get.ensures.rows ∙ sym (change_at (rows s.contexts) i (voided words) c.in-Some-get.row (sym c.in-Some-get.ensures)))
     ∙ ap (added words (model s)) (sym c.in-Void.is)
 
-pub returns-in-default-get : goal.returns-in-default-get
-returns-in-default-get c =
+pub returns-in_default-get : goal.returns-in_default-get
+returns-in_default-get c =
     let s = c.args.self.now in
     let i = c.in-Void.context in
     contexts_same words (model s) (room s.contexts) (rows s.contexts) (change i (voided words) (rows s.contexts)) refl
-    (sym (change_past (rows s.contexts) i (voided words) c.in-default-get.ensures))
+    (sym (change_past (rows s.contexts) i (voided words) c.in_default-get.ensures))
     ∙ ap (added words (model s)) (sym c.in-Void.is)

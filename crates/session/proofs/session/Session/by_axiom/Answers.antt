@@ -25,10 +25,10 @@ loop-a-init c =
 pub loop-a-preserved : goal.loop-a-preserved
 loop-a-preserved c =
     let s = model c.args.self.now in
-    let none = not_some c.at-axiom-found.result (sym c.if-is-some.ensures) in (
+    let none = not_some c.at_axiom-found.result (sym c.if-is_some.ensures) in (
       none,
       none_more (axiom_axiom s c.args.rule c.search.i c.row-context.result) s.axioms c.loop-a.a c.row.result c.loop-a.invariant.1 c.row.ensures
-          (sym c.at-axiom-found.ensures ∙ none),
+          (sym c.at_axiom-found.ensures ∙ none),
     )
 
 pub search-preserved : goal.search-preserved
@@ -46,12 +46,12 @@ returns-after-search c =
     let s = model c.args.self.now in
     c.search.invariant.0 ∙ sym (first_none (axiom_context s c.args.rule) s.contexts c.search.i c.search.invariant.1 (omega (arith, c.search-test.false, c.len-i-end.ensures)))
 
-pub returns-then-is-some : goal.returns-then-is-some
-returns-then-is-some c =
+pub returns-then-is_some : goal.returns-then-is_some
+returns-then-is_some c =
     let s = model c.args.self.now in
     let e = c.row-context.result in
-    let o = c.at-axiom-found.result in
-    let some = sym c.if-is-some.ensures in
-    let inner = first_left (axiom_axiom s c.args.rule c.search.i e) s.axioms c.loop-a.a c.row.result o c.loop-a.invariant.1 c.row.ensures (sym c.at-axiom-found.ensures) some in
+    let o = c.at_axiom-found.result in
+    let some = sym c.if-is_some.ensures in
+    let inner = first_left (axiom_axiom s c.args.rule c.search.i e) s.axioms c.loop-a.a c.row.result o c.loop-a.invariant.1 c.row.ensures (sym c.at_axiom-found.ensures) some in
     sym (first_left (axiom_context s c.args.rule) s.contexts c.search.i e o c.search.invariant.1 c.row-context.ensures
     (when_passed (not e.void) _ (ap not c.if-context.false) ∙ inner) some)

@@ -40,10 +40,10 @@ loop-j-preserved c =
     let s = model c.args.self.now in
     let x = c.row-axiom.result in
     let d = c.row-need.result in
-    let none = not_some c.at-edge-found.result (sym c.if-is-some.ensures) in (
+    let none = not_some c.at_edge-found.result (sym c.if-is_some.ensures) in (
       none,
       none_more (edge_need s c.args.rule c.search.i x) s.needs c.loop-j.j d c.loop-j.invariant.1 c.row-need.ensures
-          (when_passed (eqb d.context c.search.i) _ (eq-eqb d.context c.search.i c.if-need-i.false) ∙ sym c.at-edge-found.ensures ∙ none),
+          (when_passed (eqb d.context c.search.i) _ (eq-eqb d.context c.search.i c.if-need-i.false) ∙ sym c.at_edge-found.ensures ∙ none),
     )
 
 pub loop-a-preserved : goal.loop-a-preserved
@@ -72,16 +72,16 @@ returns-after-search c =
     let s = model c.args.self.now in
     c.search.invariant.0 ∙ sym (first_none (edge_context s c.args.rule) s.contexts c.search.i c.search.invariant.1 (omega (arith, c.search-test.false, c.len-i-end.ensures)))
 
-pub returns-then-is-some : goal.returns-then-is-some
-returns-then-is-some c =
+pub returns-then-is_some : goal.returns-then-is_some
+returns-then-is_some c =
     let s = model c.args.self.now in
     let e = c.row-context.result in
     let x = c.row-axiom.result in
     let d = c.row-need.result in
-    let o = c.at-edge-found.result in
-    let some = sym c.if-is-some.ensures in
+    let o = c.at_edge-found.result in
+    let some = sym c.if-is_some.ensures in
     let in_needs = first_left (edge_need s c.args.rule c.search.i x) s.needs c.loop-j.j d o c.loop-j.invariant.1 c.row-need.ensures
-    (when_passed (eqb d.context c.search.i) _ (eq-eqb d.context c.search.i c.if-need-i.false) ∙ sym c.at-edge-found.ensures) some in
+    (when_passed (eqb d.context c.search.i) _ (eq-eqb d.context c.search.i c.if-need-i.false) ∙ sym c.at_edge-found.ensures) some in
     let in_axioms = first_left (edge_axiom s c.args.rule c.search.i e) s.axioms c.loop-a.a x o c.loop-a.invariant.1 c.row-axiom.ensures
     (when_passed (edge_applies c.args.rule e x) _ (sym c.if-not-applies.ensures) ∙ in_needs) some in
     sym (first_left (edge_context s c.args.rule) s.contexts c.search.i e o c.search.invariant.1 c.row-context.ensures

@@ -27,10 +27,10 @@ pub loop-j-preserved : goal.loop-j-preserved
 loop-j-preserved c =
     let s = model c.args.self.now in
     let d = c.row-need.result in
-    let none = not_some c.at-need-found.result (sym c.if-is-some.ensures) in (
+    let none = not_some c.at_need-found.result (sym c.if-is_some.ensures) in (
       none,
       none_more (need_need s c.args.rule c.search.i) s.needs c.loop-j.j d c.loop-j.invariant.1 c.row-need.ensures
-          (when_passed (eqb d.context c.search.i) _ (eq-eqb d.context c.search.i c.if-need-i.false) ∙ sym c.at-need-found.ensures ∙ none),
+          (when_passed (eqb d.context c.search.i) _ (eq-eqb d.context c.search.i c.if-need-i.false) ∙ sym c.at_need-found.ensures ∙ none),
     )
 
 pub search-preserved : goal.search-preserved
@@ -48,14 +48,14 @@ returns-after-search c =
     let s = model c.args.self.now in
     c.search.invariant.0 ∙ sym (first_none (need_context s c.args.rule) s.contexts c.search.i c.search.invariant.1 (omega (arith, c.search-test.false, c.len-i-end.ensures)))
 
-pub returns-then-is-some : goal.returns-then-is-some
-returns-then-is-some c =
+pub returns-then-is_some : goal.returns-then-is_some
+returns-then-is_some c =
     let s = model c.args.self.now in
     let e = c.row-context.result in
     let d = c.row-need.result in
-    let o = c.at-need-found.result in
-    let some = sym c.if-is-some.ensures in
+    let o = c.at_need-found.result in
+    let some = sym c.if-is_some.ensures in
     let inner = first_left (need_need s c.args.rule c.search.i) s.needs c.loop-j.j d o c.loop-j.invariant.1 c.row-need.ensures
-    (when_passed (eqb d.context c.search.i) _ (eq-eqb d.context c.search.i c.if-need-i.false) ∙ sym c.at-need-found.ensures) some in
+    (when_passed (eqb d.context c.search.i) _ (eq-eqb d.context c.search.i c.if-need-i.false) ∙ sym c.at_need-found.ensures) some in
     sym (first_left (need_context s c.args.rule) s.contexts c.search.i e o c.search.invariant.1 c.row-context.ensures
     (when_passed (not e.void) _ (ap not c.if-context.false) ∙ inner) some)

@@ -8,8 +8,8 @@ use Rattle.session.proofs.session.Session.step_bound.Goals as goal
 pub returns : goal.returns
 returns c =
     let s = c.args.self.now in
-    let value : c.step-bound.result ≡ step_bound s.terms s.roles (room s.contexts) (room s.needs) =
-    c.step-bound.ensures.value ∙ ap (λ (n : ℕ). step_bound s.terms s.roles n c.room-2.result) c.room.ensures
+    let value : c.step_bound.result ≡ step_bound s.terms s.roles (room s.contexts) (room s.needs) =
+    c.step_bound.ensures.value ∙ ap (λ (n : ℕ). step_bound s.terms s.roles n c.room-2.result) c.room.ensures
     ∙ ap (λ (n : ℕ). step_bound s.terms s.roles (room s.contexts) n) c.room-2.ensures in
     record {
       value = value;

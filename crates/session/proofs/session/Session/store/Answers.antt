@@ -14,7 +14,7 @@ returns c =
     let s = c.args.self.now in
     let t = c.args.set in
     let old = rows s.contexts in
-    let free : ltb (length (rows s.contexts)) (room s.contexts) ≡ true = sym c.is-free.ensures ∙ c.if-not-is-free.false in
+    let free : ltb (length (rows s.contexts)) (room s.contexts) ≡ true = sym c.is_free.ensures ∙ c.if-not-is_free.false in
     let grown : rows c.append.new.self ≡ rows s.contexts ++ (fresh words t ∷ []) = c.append.ensures.rows ∙ cond-true (ltb (length old) (room s.contexts)) _ _ free in
     record {
       value = ap Ok (c.len.ensures ∙ ap length grown ∙ length_end old (fresh words t) ∙ sym (add-one (length old))) ∙ sym (cond-true (ltb (length old) (room s.contexts)) _ _ free);

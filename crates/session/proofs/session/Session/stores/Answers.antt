@@ -12,7 +12,7 @@ use Rattle.session.proofs.session.Session.stores.Goals as goal
 
 pub returns-in-Fresh : goal.returns-in-Fresh
 unfolding is_stored
-returns-in-Fresh c = c.is-some.ensures ∙ ap (λ (o : Option ℕ). is_some o) c.first.ensures.value
+returns-in-Fresh c = c.is_some.ensures ∙ ap (λ (o : Option ℕ). is_some o) c.first.ensures.value
     ∙ found_is_any (λ (e : Context TermSet). same_set words e.set c.in-Fresh.set) 0 (rows c.args.self.now.contexts) ∙ ap (is_stored words (model c.args.self.now)) (sym c.in-Fresh.is)
 
 pub returns-in-Some : goal.returns-in-Some
@@ -37,5 +37,5 @@ returns-in-None-get c = ap (passing (λ (e : Context TermSet). e.void)) c.in-Non
 
 pub returns-in-Needed : goal.returns-in-Needed
 unfolding is_stored
-returns-in-Needed c = c.is-some-in-Needed.ensures ∙ ap (λ (o : Option ℕ). is_some o) c.first-in-Needed.ensures.value
+returns-in-Needed c = c.is_some-in-Needed.ensures ∙ ap (λ (o : Option ℕ). is_some o) c.first-in-Needed.ensures.value
     ∙ found_is_any (λ d. need_covers words d c.in-Needed.need) 0 (rows c.args.self.now.needs) ∙ ap (is_stored words (model c.args.self.now)) (sym c.in-Needed.is)

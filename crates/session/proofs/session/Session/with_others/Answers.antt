@@ -6,11 +6,11 @@ use Rattle.session.proofs.Firsts.{none_more, first_left, first_none, when_passed
 use Rattle.session.proofs.ScanSteps.{pair_other}
 use Rattle.session.proofs.session.Session.with_others.Goals as goal
 
-pub returns-in-default : goal.returns-in-default
+pub returns-in_default : goal.returns-in_default
 unfolding given
-returns-in-default c =
+returns-in_default c =
     let s = model c.args.self.now in
-    ap (λ (o : Option ℕ). given o (λ k. first 0 s.needs (pair_other s c.args.rule c.args.place c.args.«axiom».now c.args.need.now k))) c.in-default.ensures
+    ap (λ (o : Option ℕ). given o (λ k. first 0 s.needs (pair_other s c.args.rule c.args.place c.args.«axiom».now c.args.need.now k))) c.in_default.ensures
 
 pub loop-n-preserved-then-other-owner : goal.loop-n-preserved-then-other-owner
 loop-n-preserved-then-other-owner c =
@@ -26,16 +26,16 @@ loop-n-preserved c =
     let f = c.row-other.result in
     let k = c.in-Some.owner in
     none_more (pair_other s c.args.rule c.args.place c.args.«axiom».now c.args.need.now k) s.needs c.loop-n.n f c.loop-n.invariant c.row-other.ensures
-    (when_passed (eqb f.context k) _ (eq-eqb f.context k c.if-other-owner.false) ∙ sym c.at-pair-found.ensures ∙ not_some c.at-pair-found.result (sym c.if-is-some.ensures))
+    (when_passed (eqb f.context k) _ (eq-eqb f.context k c.if-other-owner.false) ∙ sym c.at_pair-found.ensures ∙ not_some c.at_pair-found.result (sym c.if-is_some.ensures))
 
-pub returns-then-is-some : goal.returns-then-is-some
+pub returns-then-is_some : goal.returns-then-is_some
 unfolding given
-returns-then-is-some c =
+returns-then-is_some c =
     let s = model c.args.self.now in
     let f = c.row-other.result in
     let k = c.in-Some.owner in
-    sym (first_left (pair_other s c.args.rule c.args.place c.args.«axiom».now c.args.need.now k) s.needs c.loop-n.n f c.at-pair-found.result c.loop-n.invariant c.row-other.ensures
-    (when_passed (eqb f.context k) _ (eq-eqb f.context k c.if-other-owner.false) ∙ sym c.at-pair-found.ensures) (sym c.if-is-some.ensures))
+    sym (first_left (pair_other s c.args.rule c.args.place c.args.«axiom».now c.args.need.now k) s.needs c.loop-n.n f c.at_pair-found.result c.loop-n.invariant c.row-other.ensures
+    (when_passed (eqb f.context k) _ (eq-eqb f.context k c.if-other-owner.false) ∙ sym c.at_pair-found.ensures) (sym c.if-is_some.ensures))
     ∙ ap (λ (o : Option ℕ). given o (λ k. first 0 s.needs (pair_other s c.args.rule c.args.place c.args.«axiom».now c.args.need.now k))) c.in-Some.ensures
 
 pub returns : goal.returns

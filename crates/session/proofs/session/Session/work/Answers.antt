@@ -15,7 +15,7 @@ loop-found-preserved c =
     let u = model c.loop-found.self in
     let n = c.loop-found.steps in
     let made : Steps s (suc n) (added words u c.in-Some.found) =
-    Steps.one_more n u c.in-Some.found c.loop-found.invariant.0 (sym c.in-Some.ensures) (sym c.in-default-blocked.ensures) in (
+    Steps.one_more n u c.in-Some.found c.loop-found.invariant.0 (sym c.in-Some.ensures) (sym c.in_default-blocked.ensures) in (
       subst (λ (k : ℕ). Steps s k (model c.add.new.self)) (sym (add-one n)) (subst (λ (t : State TermSet). Steps s (suc n) t) (sym c.add.ensures) made),
       omega (arith, c.if-steps-budget.false),
     )
