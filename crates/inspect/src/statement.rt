@@ -13,8 +13,7 @@ use std::alloc::AllocError;
 pub fn push_number(text: &mut String, n: usize) -> Result<(), AllocError>
     ensures { OnOk result (string_bytes text.new ≡ string_bytes text.old ++ decimal n) }
 {
-    let digits = n.to_string(text.allocator())?;
-    text.push_str(digits.as_str())
+    write!(text, "{n}")
 }
 
 // Adds a role, with a minus sign where it is read backward.

@@ -5,14 +5,14 @@ use Rattle.numbers.specs.TermSets.{term_has}
 use Rattle.inspect.specs.Statements.{so_far}
 use Rattle.inspect.proofs.Spaces.{said_more, said_same, left_said, so_far_none}
 use Rattle.inspect.proofs.statement.push_left.Goals as goal
-use Rattle.inspect.proofs.statement.push_left.Goals.{then-contains+in-ok-push_next, else-contains}
+use Rattle.inspect.proofs.statement.push_left.Goals.{then-contains+in_ok-push_next, else-contains}
 
 pub loop-n-preserved : goal.loop-n-preserved
 loop-n-preserved c =
     let start = string_bytes c.args.text.now in
     let inv = c.loop-n.invariant in
     elim c.if-contains.branch [
-      | then-contains+in-ok-push_next w ↦
+      | then-contains+in_ok-push_next w ↦
           let more = said_more c.args.left c.loop-n.n (omega arith) start (string_bytes c.loop-n.text) (string_bytes w.push_next.new.text) c.loop-n.first inv.0 inv.1
           (sym c.contains.ensures ∙ w.if-contains.true) w.in_ok-push_next.ensures in
           (w.first-is ∙ more.0, ap string_bytes w.text-is ∙ more.1)

@@ -1,5 +1,0 @@
-use Rattle.std.proofs.Common.{append_assoc, rules}
-use Rattle.inspect.proofs.listing.push_entry.Goals as goal
-
-pub returns-in_ok-push_str-2 : goal.returns-in_ok-push_str-2
-returns-in_ok-push_str-2 c = search (rules, append_assoc)
