@@ -28,6 +28,26 @@ pub(crate) fn check_run<S: Shelf>(
     }
 }
 
+// Checks that a shelf of the mark has these entries, and that the places around them are outside. A check that
+// fails says the bytes of the note.
+fn check_noted<S: Shelf>(
+    rt: &impl Abort,
+    note: &[u8],
+    shelf: &S,
+    mark: u16,
+    expected: &[Entry],
+) -> Result<(), Fail> {
+    let count = shelf.count();
+    assert_eq!(rt; count as usize, expected.len(), "{note:?}");
+    let mut place = 0u16;
+    for entry in expected {
+        place = place.wrapping_add(1);
+        assert_eq!(rt; shelf.entry(place), *entry, "{} of {note:?}", place);
+    }
+    check_outside(rt, shelf, mark, &[0, count.wrapping_add(1), 65535]);
+    Ok(())
+}
+
 // Checks that a shelf of the mark has these entries, and that the places around them are outside.
 pub(crate) fn check_list<S: Shelf>(
     rt: &impl Abort,
@@ -35,15 +55,16 @@ pub(crate) fn check_list<S: Shelf>(
     mark: u16,
     expected: &[Entry],
 ) -> Result<(), Fail> {
-    let count = shelf.count();
-    assert_eq!(rt; count as usize, expected.len());
-    let mut place = 0u16;
-    for entry in expected {
-        place = place.wrapping_add(1);
-        assert_eq!(rt; shelf.entry(place), *entry, "{}", place);
-    }
-    check_outside(rt, shelf, mark, &[0, count.wrapping_add(1), 65535]);
-    Ok(())
+    check_noted(rt, &[], shelf, mark, expected)
+}
+
+// Checks that the catalogue of these bytes has these entries.
+pub(crate) fn check_catalogue(
+    rt: &impl Abort,
+    bytes: &[u8],
+    expected: &[Entry],
+) -> Result<(), Fail> {
+    check_noted(rt, bytes, &Catalogue::new(bytes, 7), 7, expected)
 }
 
 // Checks that a catalogue of this body alone has this entry.
@@ -54,5 +75,5 @@ pub(crate) fn check_alone(
     expected: Entry,
 ) -> Result<(), Fail> {
     let bytes = catalogue_bytes(heap, &[body])?;
-    check_list(rt, &Catalogue::new(bytes.as_slice(), 7), 7, &[expected])
+    check_catalogue(rt, bytes.as_slice(), &[expected])
 }

@@ -1,7 +1,6 @@
 // Faults of a body: its kind, its two fields and its left list.
-use crate::checking::check_list;
+use crate::checking::check_catalogue;
 use crate::making::{catalogue_bytes, fault, first_entry};
-use catalogue::reader::Catalogue;
 use shelf::fault::Cause;
 use std::alloc::Global;
 use std::process::Abort;
@@ -17,9 +16,7 @@ fn check_fault(
 ) -> Result<(), Fail> {
     let bytes = catalogue_bytes(heap, &[&[1, 0, 2, 1], body])?;
     let expected = [first_entry(), Err(fault(cause, byte, 7, 2))];
-    check_list(rt, &Catalogue::new(bytes.as_slice(), 7), 7, &expected).note(format_args!(
-        "{body:?}"
-    ))
+    check_catalogue(rt, bytes.as_slice(), &expected)
 }
 
 // The causes have the numbers under which they are reported.

@@ -1,9 +1,8 @@
 // Faults of a catalogue's count and contents.
-use crate::checking::check_list;
+use crate::checking::check_catalogue;
 use crate::making::{
     TWO_ENTRIES, catalogue_bytes, fault, first_entry, nothing, push_word, second_entry, under,
 };
-use catalogue::reader::Catalogue;
 use shelf::fault::{Cause, Entry};
 use std::alloc::Global;
 use std::process::Abort;
@@ -12,7 +11,7 @@ use std::test::Fail;
 // Checks that bytes whose contents cannot be read mean one faulty entry.
 fn check_unreadable(rt: &impl Abort, bytes: &[u8]) -> Result<(), Fail> {
     let contents = Err(fault(Cause::Contents, 0, 7, 1));
-    check_list(rt, &Catalogue::new(bytes, 7), 7, &[contents])
+    check_catalogue(rt, bytes, &[contents])
 }
 
 // A missing count, cut contents, and bytes after the count 0 cannot be read.
@@ -30,7 +29,7 @@ fn cut_contents_cannot_be_read(rt: HostRuntime) -> Result<(), Fail> {
         &[255, 255, 0, 10, 0, 3, 2, 0, 0],
     ];
     for bytes in cases {
-        check_unreadable(&rt, bytes).note(format_args!("{bytes:?}"))?;
+        check_unreadable(&rt, bytes)?;
     }
     Ok(())
 }
@@ -63,7 +62,7 @@ fn check_lines(
         push_word(&mut bytes, length)?;
     }
     bytes.extend_from_slice(bodies)?;
-    check_list(rt, &Catalogue::new(bytes.as_slice(), 7), 7, &expected)
+    check_catalogue(rt, bytes.as_slice(), &expected)
 }
 
 // The entry for a fault of the first of two lines.
@@ -143,7 +142,7 @@ fn a_length_is_3_to_67(rt: HostRuntime) -> Result<(), Fail> {
         let mut bodies = vec![in heap; 0u8; length]?;
         bodies.extend_from_slice(&[1, 0, 9])?;
         let lines = [Line(10, length), Line(10 + length, 3)];
-        check_lines(&rt, heap, lines, bodies.as_slice(), [first_fault(), nine()]).note(length)?;
+        check_lines(&rt, heap, lines, bodies.as_slice(), [first_fault(), nine()])?;
     }
     Ok(())
 }
@@ -171,12 +170,11 @@ fn the_last_body_ends_with_the_bytes(rt: HostRuntime) -> Result<(), Fail> {
 
 // Checks what is left of the catalogue with two entries where it has only so many bytes.
 fn check_cut(rt: &impl Abort, bytes: &[u8]) -> Result<(), Fail> {
-    let shelf = Catalogue::new(bytes, 7);
     match bytes.len() {
         0..=9 => check_unreadable(rt, bytes),
-        10..=13 => check_list(rt, &shelf, 7, &[first_fault(), second_fault()]),
-        14..=16 => check_list(rt, &shelf, 7, &[first_entry(), second_fault()]),
-        _ => check_list(rt, &shelf, 7, &[first_entry(), second_entry()]),
+        10..=13 => check_catalogue(rt, bytes, &[first_fault(), second_fault()]),
+        14..=16 => check_catalogue(rt, bytes, &[first_entry(), second_fault()]),
+        _ => check_catalogue(rt, bytes, &[first_entry(), second_entry()]),
     }
 }
 
@@ -187,7 +185,7 @@ fn a_cut_catalogue_keeps_whole_bodies(rt: HostRuntime) -> Result<(), Fail> {
         let bytes = TWO_ENTRIES
             .get(0..length)
             .ok_or("longer than the catalogue")?;
-        check_cut(&rt, bytes).note(length)?;
+        check_cut(&rt, bytes)?;
     }
     Ok(())
 }

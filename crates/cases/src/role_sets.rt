@@ -70,8 +70,8 @@ fn a_set_of_one_role_has_that_member(rt: HostRuntime) {
 
 // Checks that no set has a role, not even the full one, and that it alone makes the empty set.
 fn check_no_member(rt: &impl Abort, role: DirectedRole) -> Result<(), Fail> {
-    assert_eq!(rt; RoleSet::only(role), RoleSet::empty());
-    assert!(rt; !all_roles().contains(role));
+    assert_eq!(rt; RoleSet::only(role), RoleSet::empty(), "{role:?}");
+    assert!(rt; !all_roles().contains(role), "{role:?}");
     Ok(())
 }
 
@@ -79,8 +79,8 @@ fn check_no_member(rt: &impl Abort, role: DirectedRole) -> Result<(), Fail> {
 #[test]
 fn a_role_out_of_range_is_no_member(rt: HostRuntime) -> Result<(), Fail> {
     for number in [0, 17, 128, 129, 255] {
-        check_no_member(&rt, forward(number)).note(number)?;
-        check_no_member(&rt, backward(number)).note(number)?;
+        check_no_member(&rt, forward(number))?;
+        check_no_member(&rt, backward(number))?;
     }
     for number in [1, 16] {
         assert!(rt; all_roles().contains(forward(number)), "{}", number);
@@ -108,8 +108,8 @@ fn a_role_union_has_both_members(rt: HostRuntime) {
 
 // Checks that a set is this one when it is turned, and itself when it is turned twice.
 fn check_turned(rt: &impl Abort, set: RoleSet, turned: RoleSet) -> Result<(), Fail> {
-    assert_eq!(rt; set.turned(), turned);
-    assert_eq!(rt; set.turned().turned(), set);
+    assert_eq!(rt; set.turned(), turned, "{set:?}");
+    assert_eq!(rt; set.turned().turned(), set, "{set:?}");
     Ok(())
 }
 
@@ -126,8 +126,8 @@ fn a_turned_set_has_the_turned_roles(rt: HostRuntime) -> Result<(), Fail> {
     for number in 0..=17u8 {
         let ahead = RoleSet::only(forward(number));
         let back = RoleSet::only(backward(number));
-        check_turned(&rt, ahead, back).note(number)?;
-        check_turned(&rt, back, ahead).note(number)?;
+        check_turned(&rt, ahead, back)?;
+        check_turned(&rt, back, ahead)?;
     }
     Ok(())
 }
