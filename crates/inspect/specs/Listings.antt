@@ -1,5 +1,5 @@
 -- What the program prints of a catalogue: a line for each entry, and one that counts them. Assumes nothing.
-use Rattle.std.specs.Prelude.{ℕ, suc, ◌+◌, Bool, cond, List, [], ◌∷◌, ◌++◌, length, Ok, Err, codes, decimal}
+use Rattle.std.specs.Prelude.{ℕ, suc, Bool, cond, List, [], ◌∷◌, ◌++◌, length, Ok, Err, codes, decimal}
 use Rattle.shelf.specs.Faults.{cause_number}
 use Rattle.shelf.specs.Shelves.{Entry}
 use Rattle.writer.specs.Writing.{faultless}

@@ -1,5 +1,5 @@
 -- Sets kept as words of w digits keep the laws of sets: proved once, over the width. Assumes nothing.
-use Rattle.std.specs.Prelude.{◌≡◌, ℕ, zero, suc, ◌-◌, ◌*◌, ◌/◌, ◌%◌, ◌^◌, ◌<◌, ◌≤◌, Bool, true, false, not, ◌&&◌, ◌||◌, ◌⊎◌, Decides, ◌==◌, refl}
+use Rattle.std.specs.Prelude.{◌≡◌, ℕ, zero, suc, ◌*◌, ◌/◌, ◌%◌, ◌^◌, ◌<◌, ◌≤◌, Bool, true, false, not, ◌&&◌, ◌||◌, Decides, ◌==◌, refl}
 use Rattle.std.proofs.Common.{⊎_elim, sym, ap, ◌∙◌, arith, zero-mul, one-mul, lit<}
 use Rattle.std.specs.Int.Bits.{bit_and, bit_or, and_lt, and_zero_r}
 use Rattle.std.proofs.lemmas.Nat.{pow_pos}

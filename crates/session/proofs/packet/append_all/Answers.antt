@@ -1,6 +1,6 @@
 use Rattle.std.proofs.Common.{◌+◌, List, ◌++◌, length, drop, Some, sym, ap, ◌∙◌, arith}
 use Rattle.shelf.specs.Axioms.{Axiom}
-use Rattle.session.specs.Tables.{rows, room}
+use Rattle.session.specs.Tables.{rows}
 use Rattle.session.specs.Taking.{axioms_of}
 use Rattle.session.proofs.Packets.{listed, axioms_next, axioms_end, entry_longer}
 use Rattle.session.proofs.packet.append_all.Goals as goal

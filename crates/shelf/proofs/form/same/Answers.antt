@@ -1,4 +1,4 @@
-use Rattle.std.proofs.Common.{◌≡◌, ◌∙◌, ℕ, Bool, true, ◌&&◌, Option, Some, None, refl, subst, sym}
+use Rattle.std.proofs.Common.{◌≡◌, ◌∙◌, Bool, true, ◌&&◌, Option, Some, None, refl, subst, sym}
 use Rattle.std.proofs.lemmas.Bool.{and_from, and_parts, eqb-true, eq-eqb, false≢true}
 use Rattle.std.specs.contracts.prelude.OptionPartialEq.TheImpl as options
 use Rattle.numbers.specs.contracts.role.DirectedRolePartialEq.TheImpl as roles
@@ -8,12 +8,10 @@ use Rattle.numbers.specs.contracts.term_set.TermSet as set_row
 use Rattle.numbers.specs.contracts.term_set.members.TermSetPartialEq.TheImpl as sets
 use Rattle.numbers.specs.declared.role.DirectedRole.{DirectedRole}
 use Rattle.numbers.specs.declared.role.DirectedRole.TheVariants.{Forward, Backward}
-use Rattle.numbers.specs.declared.role.Role.{Role}
 use Rattle.numbers.specs.declared.term.Term.{Term}
 use Rattle.numbers.specs.declared.term_set.TermSet.{TermSet}
 use Rattle.numbers.specs.SetsLawful.{same_terms}
 use Rattle.shelf.specs.Axioms.{Axiom}
-use Rattle.shelf.specs.declared.form.Form.{Form}
 use Rattle.shelf.specs.declared.form.Form.TheVariants.{Under, Nothing, Exists, Only, AtMostOne, RoleUnder}
 use Rattle.shelf.specs.contracts.form.FormPartialEq.TheImpl as forms
 use Rattle.shelf.proofs.form.same.Goals as goal

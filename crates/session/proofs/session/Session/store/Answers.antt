@@ -1,4 +1,4 @@
-use Rattle.std.proofs.Common.{◌≡◌, ◌+◌, true, false, ltb, [], ◌∷◌, ◌++◌, length, Ok, sym, refl, ap, ◌∙◌, add-one}
+use Rattle.std.proofs.Common.{◌≡◌, true, false, ltb, [], ◌∷◌, ◌++◌, length, Ok, sym, refl, ap, ◌∙◌, add-one}
 use Rattle.std.proofs.lemmas.Bool.{cond-true}
 use Rattle.calculus.proofs.Places.{length_end}
 use Rattle.calculus.specs.Makes.{words}

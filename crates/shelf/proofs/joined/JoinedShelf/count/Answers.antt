@@ -1,4 +1,4 @@
-use Rattle.std.proofs.Common.{◌+◌, ◌++◌, arith, length-append}
+use Rattle.std.proofs.Common.{◌++◌, arith, length-append}
 use Rattle.shelf.proofs.joined.JoinedShelf.count.Goals as goal
 
 pub returns : goal.returns

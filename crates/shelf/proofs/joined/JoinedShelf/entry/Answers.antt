@@ -1,4 +1,4 @@
-use Rattle.std.proofs.Common.{ℕ, ◌+◌, ◌-◌, ◌++◌, sym, ap, ◌∙◌, arith, length-append}
+use Rattle.std.proofs.Common.{ℕ, ◌-◌, ◌++◌, sym, ap, ◌∙◌, arith, length-append}
 use Rattle.shelf.specs.EntryLists.{at_first, at_second}
 use Rattle.shelf.specs.Shelves.{entry_at}
 use Rattle.shelf.proofs.joined.JoinedShelf.entry.Goals as goal
