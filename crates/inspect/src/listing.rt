@@ -65,7 +65,8 @@ fn push_lines<S: Shelf>(text: &mut String, shelf: &S) -> Result<u16, AllocError>
     let mut faults = 0;
     for i in 0..shelf.count() {
         let entry = shelf.entry(i + 1);
-        if entry.is_err() {
+        let faulty = entry.is_err();
+        if faulty {
             faults += 1;
         }
         push_line(text, i + 1, entry)?;

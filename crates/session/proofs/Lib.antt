@@ -7,3 +7,4 @@ pub mod RunLaws
 pub mod ScanSteps
 pub mod StateParts
 pub mod TableRows
+pub mod WorkSteps

@@ -1,5 +1,6 @@
 -- A buffer that is filled from the front. Assumes nothing.
-use Rattle.std.proofs.Common.{◌≡◌, ℕ, zero, suc, ◌+◌, ◌<◌, ◌≤◌, true, false, leb, List, [], ◌∷◌, ◌++◌, length, get_or, take, drop, is_err, Ok, Err, sym, refl, ap, ◌∙◌, append_assoc, add-one, arith, length-append}
+use Rattle.std.proofs.Common.{◌≡◌, ℕ, zero, suc, ◌+◌, ◌/◌, ◌%◌, ◌<◌, ◌≤◌, true, false, leb, List, [], ◌∷◌, ◌++◌, length, get_or, take, drop, is_err, Ok, Err, sym, refl, ap, ◌∙◌, append_assoc, add-one, arith, length-append}
+use lib.ListN.{length-map}
 use Rattle.std.proofs.lemmas.List.{take_all, take_at, drop_at, drop-drop, at_drop_more, at_drop_all, get_or-map}
 use Rattle.std.proofs.lemmas.Bool.{and_parts, true≢false, false≢true, cond-true, le-leb}
 use Rattle.shelf.specs.Shelves.{Entry, entry_at, byteless, sound_entry, all_sound}
@@ -25,6 +26,10 @@ filled_step all old front part rest k e h =
 -- nothing is filled yet
 pub filled_none : (all old : List ℕ) → old ≡ filled all old 0
 filled_none all old = refl
+
+-- the count is the first part
+pub count_filled : (es : List Entry) (old new : List ℕ) (count : ℕ) → count ≡ length es → new ≡ count / 256 ∷ count % 256 ∷ drop 2 old → new ≡ filled (catalogue_bytes es) old 2
+count_filled es old new count e h = h ∙ ap (λ (n : ℕ). n / 256 ∷ n % 256 ∷ drop 2 old) (omega (arith, e, length-map es entry_bytes))
 
 -- the entry at the place after i
 pub entry_next : (es : List Entry) (m i : ℕ) → entry_at es m (i + 1) ≡ get_or es i (byteless m (suc i) Outside)

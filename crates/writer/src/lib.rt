@@ -119,6 +119,19 @@ fn write_bodies<S: Shelf>(shelf: &S, buffer: &mut [u8])
     }
 }
 
+// Fills the front of a buffer with the count, the contents and the bodies.
+#[tactic(auto, using(crate::proofs::Filling::count_filled))]
+fn lay_out<S: Shelf>(shelf: &S, buffer: &mut [u8])
+    requires few { length (S.Shelf.list shelf.now) ≤ 512 }
+    requires room { length (catalogue_bytes (S.Shelf.list shelf.now)) ≤ length buffer.old }
+    ensures { buffer.new ≡ filled (catalogue_bytes (S.Shelf.list shelf.now)) buffer.old (length (catalogue_bytes (S.Shelf.list shelf.now))) }
+{
+    let count = shelf.count();
+    put(buffer, 0, &[(count / 256) as u8, (count % 256) as u8]);
+    write_lines(shelf, buffer);
+    write_bodies(shelf, buffer);
+}
+
 // Lays a shelf out as a catalogue at the front of a buffer and answers its length.
 pub fn write<S: Shelf>(shelf: &S, buffer: &mut [u8]) -> Result<usize, WriteRefusal>
     ensures value { result ≡ write_answer (S.Shelf.list shelf.now) (length buffer.old) }
@@ -135,8 +148,6 @@ pub fn write<S: Shelf>(shelf: &S, buffer: &mut [u8]) -> Result<usize, WriteRefus
     if len > buffer.len() {
         return Err(WriteRefusal::TooShort);
     }
-    put(buffer, 0, &[(count / 256) as u8, (count % 256) as u8]);
-    write_lines(shelf, buffer);
-    write_bodies(shelf, buffer);
+    lay_out(shelf, buffer);
     Ok(len)
 }

@@ -110,6 +110,7 @@ impl<'a> Session<'a> {
 
     // Adds the first missing result until none is missing, the budget is used or the first has no place. It answers the
     // steps that it made and why it stopped.
+    #[tactic(auto, using(crate::proofs::WorkSteps::stepped))]
     pub fn work(&mut self, budget: u16) -> (u16, Stop)
         ensures { Working (model self.old) budget result.0 result.1 (model self.new) }
     {

@@ -1,7 +1,6 @@
-use Rattle.std.proofs.Common.{◌≡◌, ℕ, ◌/◌, ◌%◌, leb, List, ◌∷◌, length, drop, Ok, sym, ap, ◌∙◌, arith}
-use lib.ListN.{length-map}
+use Rattle.std.proofs.Common.{ℕ, leb, List, length, Ok, sym, ap, ◌∙◌, arith}
 use Rattle.std.proofs.lemmas.Bool.{and_from, le-leb}
-use Rattle.writer.specs.Writing.{entry_bytes, entry_bodies, catalogue_bytes, filled, faultless}
+use Rattle.writer.specs.Writing.{catalogue_bytes, filled, faultless}
 use Rattle.catalogue.specs.Catalogues.{catalogue_list}
 use Rattle.writer.proofs.Filling.{answer_ok, filled_front}
 use Rattle.writer.proofs.RoundTrip.{reads_back}
@@ -15,10 +14,8 @@ returns g c =
     let len = c.catalogue_length-len.ensures in
     let faults = sym c.is_faultless.ensures ∙ c.if-not-is_faultless.false in
     let few = and_from (leb (length es) 512) (faultless es) (le-leb (length es) 512 (omega (arith, c.count-count.ensures, c.if-count-gt512.false))) faults in
-    let counted : c.count-count.result ≡ length (entry_bodies es) = omega (arith, c.count-count.ensures, length-map es entry_bytes) in
-    let begun = c.put.ensures ∙ ap (λ (n : ℕ). n / 256 ∷ n % 256 ∷ drop 2 old) counted in
-    let written = c.write_bodies.ensures old (c.write_lines.ensures old begun) ∙ ap (filled (catalogue_bytes es) old) (sym len) in
-    let front = filled_front (catalogue_bytes es) old c.write_bodies.new.buffer c.catalogue_length-len.result written (sym len) in
+    let written = c.lay_out.ensures ∙ ap (filled (catalogue_bytes es) old) (sym len) in
+    let front = filled_front (catalogue_bytes es) old c.lay_out.new.buffer c.catalogue_length-len.result written (sym len) in
     record {
       value = ap Ok len ∙ sym (answer_ok es (length old) few (omega (arith, len, c.if-len-buffer.false)));
       buffer = written;
