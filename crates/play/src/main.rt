@@ -8,21 +8,19 @@ mod script;
 mod sitting;
 mod text;
 
-use opening::Opening;
 use sitting::Sitting;
 use std::io;
 use std::io::{BufRead, BufReader};
 
 // Plays the script on standard input. A line that opens a session ends the sitting before it.
 fn main(rt: HostRuntime) -> io::Result<()> {
-    let mut sitting = Sitting::new(rt.alloc(), Opening::nothing());
-    for line in BufReader::new(rt.alloc(), rt.stdin())?.lines(rt.alloc()) {
-        let line = line?;
-        if let Ok(opening) = Opening::read(line.as_str()) {
-            sitting.play(&rt)?;
-            sitting = Sitting::new(rt.alloc(), opening);
+    let mut lines = BufReader::new(rt.alloc(), rt.stdin())?.lines(rt.alloc());
+    let mut sitting = Sitting::first(String::new(rt.alloc()));
+    for _ in 0..u64::MAX {
+        match sitting.play(&rt, &mut lines)? {
+            Some(next) => sitting = next,
+            None => return Ok(()),
         }
-        sitting.push(line)?;
     }
-    sitting.play(&rt)
+    Ok(())
 }

@@ -68,8 +68,18 @@ impl Opening {
         )
     }
 
-    // Tables of these lengths. What their rows hold does not matter, since a session fills them first.
+    // Tables of these lengths, or empty ones where no session can be opened so. What their rows hold does not matter, since
+    // a session fills them first.
     pub(crate) fn tables(self, heap: Global) -> Result<Tables, AllocError> {
+        let Opening {
+            axioms,
+            contexts,
+            needs,
+            ..
+        } = match self.check() {
+            Ok(()) => self,
+            Err(_) => Opening::nothing(),
+        };
         let terms = TermSet::empty();
         let axiom = Form::Nothing { left: terms };
         let context = Context {
@@ -83,9 +93,9 @@ impl Opening {
             terms,
         };
         Ok(Tables {
-            axioms: vec![in heap; axiom; self.axioms]?,
-            contexts: vec![in heap; context; self.contexts]?,
-            needs: vec![in heap; need; self.needs]?,
+            axioms: vec![in heap; axiom; axioms]?,
+            contexts: vec![in heap; context; contexts]?,
+            needs: vec![in heap; need; needs]?,
         })
     }
 }

@@ -2,32 +2,32 @@
 use crate::opening::Opening;
 use crate::script::{Call, Unread};
 use session::session::Session;
-use std::alloc::{AllocError, AllocFailed, Global};
+use std::alloc::{AllocError, Global};
 use std::io;
+use std::io::{BufRead, Lines};
 
-// What the session is opened with, and the lines up to the next opening.
+// What a session is opened with, and the line that says so; the first sitting has none.
 #[derive(Drop)]
 pub(crate) struct Sitting {
     opening: Opening,
-    lines: Vec<String>,
+    line: String,
 }
 
 impl Sitting {
-    // A sitting without lines.
-    pub(crate) fn new(heap: Global, opening: Opening) -> Sitting {
+    // The sitting before any line that opens a session.
+    pub(crate) fn first(line: String) -> Sitting {
         Sitting {
-            opening,
-            lines: Vec::new(heap),
+            opening: Opening::nothing(),
+            line,
         }
     }
 
-    // Puts a line at the end.
-    pub(crate) fn push(&mut self, line: String) -> Result<(), AllocFailed<String>> {
-        self.lines.push(line)
-    }
-
-    // Opens the session and plays the lines.
-    pub(crate) fn play(&self, rt: &HostRuntime) -> io::Result<()> {
+    // Opens the session, and answers lines as they come up to one that opens another.
+    pub(crate) fn play<B: BufRead + Drop>(
+        &self,
+        rt: &HostRuntime,
+        lines: &mut Lines<B, Global>,
+    ) -> io::Result<Option<Sitting>> {
         let mut tables = self.opening.tables(rt.alloc())?;
         let mut session = Session::open(
             self.opening.terms,
@@ -36,10 +36,15 @@ impl Sitting {
             tables.contexts.as_mut_slice(),
             tables.needs.as_mut_slice(),
         );
-        for line in &self.lines {
+        play_line(rt, &mut session, self.line.as_str())?;
+        for line in lines {
+            let line = line?;
+            if let Ok(opening) = Opening::read(line.as_str()) {
+                return Ok(Some(Sitting { opening, line }));
+            }
             play_line(rt, &mut session, line.as_str())?;
         }
-        Ok(())
+        Ok(None)
     }
 }
 

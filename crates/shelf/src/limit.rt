@@ -8,7 +8,8 @@ use crate::fault::{Cause, Entry, Origin, without_byte};
 pub(crate) fn limited_count(total: usize) -> u16
     ensures { (m : ℕ) (xs : List Entry) → length xs ≡ total → result ≡ length (at_most_all m xs) }
 {
-    if total <= 65535 { total as u16 } else { 1 }
+    let fits = total <= 65535;
+    if fits { total as u16 } else { 1 }
 }
 
 // The answer at a place where there is no entry to look at: too many were joined, or the place is outside.
