@@ -14,7 +14,7 @@ use Rattle.numbers.specs.Digits.{bit-bit_or, bit_half, bit-first, bit_past}
 use Rattle.numbers.specs.Words.{words_same, covers_includes}
 use Rattle.numbers.specs.SetsLawful.{same_roles}
 
-turned_small : (x : ℕ) → x < 2 ^ 32 → word_turned x < 2 ^ 32
+pub turned_small : (x : ℕ) → x < 2 ^ 32 → word_turned x < 2 ^ 32
 turned_small x h = or_lt 32 (x / 2 ^ 16) ((x * 2 ^ 16) % 2 ^ 32) (omega arith) (omega arith)
 
 -- the digits below a shift are 0

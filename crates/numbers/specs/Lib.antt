@@ -3,6 +3,7 @@ pub mod Roles
 pub mod RoleSets
 pub mod Sets
 pub mod TermSets
+pub mod TermLists
 pub mod Terms
 pub mod SetsLawful
 pub mod Words

@@ -2,9 +2,9 @@
 use Rattle.std.specs.Prelude.{◌≡◌, ℕ, zero, suc, ◌*◌, ◌/◌, ◌%◌, ◌^◌, ◌<◌, ◌≤◌, Bool, true, false, not, ◌&&◌, ◌||◌, Decides, ◌==◌, refl}
 use Rattle.std.proofs.Common.{⊎_elim, sym, ap, ◌∙◌, arith, zero-mul, one-mul, lit<}
 use Rattle.std.specs.Int.Bits.{bit_and, bit_or, and_lt, and_zero_r}
-use Rattle.std.proofs.lemmas.Nat.{pow_pos}
+use Rattle.std.proofs.lemmas.Nat.{pow_pos, or_lt}
 use Rattle.std.proofs.lemmas.Bool.{false≢true, both_ways, cases_lt, and_parts, eqb-true, eq-eqb, ne_eqb, or_left, or_right, or_cases}
-use Rattle.numbers.specs.Bits.{bit, word_has, word_single, word_covers, single_is, single_none}
+use Rattle.numbers.specs.Bits.{bit, word_has, word_single, word_covers, single_is, single_none, single_small}
 use Rattle.numbers.specs.Sets.{SetLaws}
 use Rattle.numbers.specs.Digits.{eqb-suc, bit-bit_and, bit-bit_or, bit_past, bit_power, bits_same, and_power}
 
@@ -86,3 +86,13 @@ word_laws {S} w bits small known none single joined none_is single_is joined_is 
 
     joined_has : (a b : S) (n : ℕ) → word_has (bits (joined a b)) n ≡ (word_has (bits a) n || word_has (bits b) n)
     joined_has a b n = ap (λ (x : ℕ). word_has x n) (joined_is a b) ∙ has_or (bits a) (bits b) n
+
+-- The same, of a set that is kept as a word of w digits: `of` is the set of a word.
+pub kept_laws : {S : Type 0} (w : ℕ) (bits : S → ℕ) (of : ℕ → S) (small : (s : S) → bits s < 2 ^ w) (kept : (x : ℕ) → x < 2 ^ w → bits (of x) ≡ x) (known : (a b : S) → bits a ≡ bits b → a ≡ b)
+    → SetLaws w (λ s. word_has (bits s)) (of 0) (λ k. of (word_single w k)) (λ a b. word_covers (bits a) (bits b)) (λ a b. of (bit_or (bits a) (bits b)))
+kept_laws w bits of small kept known = word_laws w bits small known (of 0) (λ k. of (word_single w k)) (λ a b. of (bit_or (bits a) (bits b)))
+    (kept 0 (pow_pos w)) (λ k. kept _ (single_small w k)) (λ a b. kept _ (or_lt w (bits a) (bits b) (small a) (small b)))
+
+-- Where comparing is comparing words, and a set is known by its word, it decides sameness.
+pub known_alike : {S : Type 0} (bits : S → ℕ) (known : (a b : S) → bits a ≡ bits b → a ≡ b) (eq : S → S → Bool) → ((a b : S) → eq a b ≡ (bits a == bits b)) → (a b : S) → Decides (eq a b) (a ≡ b)
+known_alike bits known eq compared a b = (λ e. known a b (eqb-true (bits a) (bits b) (sym (compared a b) ∙ e)), λ e. compared a b ∙ eq-eqb (bits a) (bits b) (ap bits e))

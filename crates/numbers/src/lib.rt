@@ -6,3 +6,4 @@ pub mod role_set;
 pub mod set;
 pub mod term;
 pub mod term_set;
+pub mod word_set;

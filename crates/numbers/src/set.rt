@@ -1,11 +1,11 @@
 // The one meaning of sets: which numbers are members.
-ghost use Rattle.std.specs.Prelude.{◌≡◌, ℕ, Bool};
+ghost use Rattle.std.specs.Prelude.{◌≡◌, ℕ, Bool, Decides};
 ghost use Rattle.numbers.specs.Sets.{SetLaws};
 
 // A set of items that have numbers. The ghost members are what the operations mean, and `laws` ties them to
 // membership: inclusion is reflexive and transitive, inclusion both ways is sameness, and a union is the
-// least set that includes both parts.
-pub trait NumberSet: Copy {
+// least set that includes both parts. `alike` says that `==` is sameness.
+pub trait NumberSet: Copy + PartialEq {
     type Item;
 
     // the largest possible member
@@ -44,5 +44,14 @@ pub trait NumberSet: Copy {
     fn union(self, other: Self) -> Self
         ensures { result ≡ joined self other };
 
+    // The set with one member more.
+    fn with(self, item: Self::Item) -> Self
+        ensures { result ≡ joined self (single (number item)) }
+    {
+        self.union(Self::only(item))
+    }
+
     ghost laws: { SetLaws limit has none single covers joined };
+
+    ghost alike: { (a b : Self) → Decides (Self.eq a b) (a ≡ b) };
 }

@@ -6,7 +6,7 @@ use Rattle.numbers.specs.contracts.role.DirectedRolePartialEq.TheImpl as roles
 use Rattle.numbers.specs.contracts.term.Term as term_row
 use Rattle.numbers.specs.contracts.term.TermPartialEq.TheImpl as terms
 use Rattle.numbers.specs.contracts.term_set.TermSet as set_row
-use Rattle.numbers.specs.contracts.term_set.members.TermSetPartialEq.TheImpl as sets
+use Rattle.numbers.specs.contracts.term_set.TermSetPartialEq.TheImpl as sets
 use Rattle.numbers.specs.declared.role.DirectedRole.{DirectedRole}
 use Rattle.numbers.specs.declared.role.DirectedRole.TheVariants.{Forward, Backward}
 use Rattle.numbers.specs.declared.term.Term.{Term}

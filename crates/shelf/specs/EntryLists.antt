@@ -1,8 +1,8 @@
 -- Lists of entries: their length, and what stands at a place. Assumes nothing.
-use Rattle.std.specs.Prelude.{◌≡◌, ℕ, zero, suc, ◌+◌, ◌-◌, ◌<◌, ◌≤◌, true, cond, List, [], ◌∷◌, ◌++◌, length, get_or, ◌==◌, nat_le, slice_index_or, refl}
-use Rattle.std.proofs.Common.{sym, ap, ◌∙◌, arith, lit≤}
+use Rattle.std.specs.Prelude.{◌≡◌, ℕ, zero, suc, ◌+◌, ◌-◌, ◌<◌, ◌≤◌, true, cond, List, [], ◌∷◌, ◌++◌, length, drop, get_or, ◌==◌, nat_le, slice_index_or, refl}
+use Rattle.std.proofs.Common.{sym, ap, ◌∙◌, add-one, arith, lit≤}
 use Rattle.std.proofs.lemmas.Bool.{leb-true, le-leb, lt-leb, cond-true, cond-false, cond_both, and_from, and_parts, ne_eqb}
-use Rattle.std.proofs.lemmas.List.{get_or_past, get_or_append_left, get_or-append_right, get_or_default}
+use Rattle.std.proofs.lemmas.List.{drop_more, get_or_past, get_or_append_left, get_or-append_right, get_or_default}
 use Rattle.shelf.specs.Shelves.{Entry, entry_at, at_most_all, byteless, all_sound}
 use Rattle.shelf.specs.declared.fault.Cause.TheVariants.{Outside, TooLong}
 
@@ -55,3 +55,7 @@ at_second m n (suc k) xs ys h a b =
     at_place m (suc k) k (xs ++ ys) h refl ∙ get_or-append_right xs ys (length xs) k (byteless m (suc k) Outside) refl (omega arith)
     ∙ get_or_default ys (k - length xs) (byteless m (suc k) Outside) (byteless n (suc (k - length xs)) Outside) (omega arith)
     ∙ ap (entry_at ys n) (later k (length xs) (omega arith))
+
+-- what comes next after the first k entries of a list
+pub entries_next : (xs : List Entry) (m k : ℕ) → k < length xs → drop k xs ≡ entry_at xs m (k + 1) ∷ drop (k + 1) xs
+entries_next xs m k h = drop_more xs k (byteless m (suc k) Outside) h ∙ ap (λ (p : ℕ). entry_at xs m p ∷ drop (k + 1) xs) (sym (add-one k))

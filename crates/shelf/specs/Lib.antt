@@ -1,4 +1,5 @@
 pub mod Axioms
+pub mod Coming
 pub mod EntryLists
 pub mod Faults
 pub mod RecordLists

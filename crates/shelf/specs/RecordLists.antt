@@ -4,8 +4,9 @@ use Rattle.std.proofs.Common.{sym, ap, ◌∙◌, add-zero, arith}
 use Rattle.std.proofs.lemmas.Bool.{and_from}
 use Rattle.shelf.specs.Axioms.{Axiom, roles_sound, right_sound}
 use Rattle.shelf.specs.Records.{read_record, records_from, records_list}
-use Rattle.shelf.specs.Shelves.{Entry, placed, all_sound, sound_entry}
-use Rattle.shelf.specs.EntryLists.{all_short, kept_sound}
+use Rattle.shelf.specs.Shelves.{Entry, placed, byteless, entry_at, all_sound, sound_entry}
+use Rattle.shelf.specs.EntryLists.{all_short, at_place, kept_sound}
+use Rattle.shelf.specs.declared.fault.Cause.TheVariants.{Outside}
 
 pub length_records : (m p : ℕ) (xs : List Axiom) → length (records_from m p xs) ≡ length xs
 length_records m p [] = refl
@@ -34,3 +35,9 @@ pub record_at : (m p : ℕ) (xs : List Axiom) (k : ℕ) (a : Axiom) (d : Entry) 
 record_at m p [] k a d h = absurd (omega arith)
 record_at m p (b ∷ xs) zero a d h = ap (λ (q : ℕ). placed m q (read_record b)) (sym (add-zero p))
 record_at m p (b ∷ xs) (suc k) a d h = record_at m (suc p) xs k a d (omega arith) ∙ ap (λ (q : ℕ). placed m q (read_record (slice_index_or xs k a))) (omega arith)
+
+-- what stands at a place of the shelf, as a record is read there
+pub records_at : (m p k : ℕ) (xs : List Axiom) (a : Axiom) → length xs ≤ 65535 → k + 1 ≡ p → k < length xs → a ≡ slice_index_or xs k a → placed m p (read_record a) ≡ entry_at (records_list m xs) m p
+records_at m p k xs a short here on row =
+    ap (λ (b : Axiom). placed m p (read_record b)) row ∙ ap (λ (q : ℕ). placed m q (read_record (slice_index_or xs k a))) (sym here ∙ omega arith)
+    ∙ sym (record_at m 1 xs k a (byteless m (suc k) Outside) on) ∙ sym (at_place m p k (records_from m 1 xs) (omega (arith, length_records m 1 xs)) (sym here ∙ omega arith))

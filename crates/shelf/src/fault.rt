@@ -1,29 +1,29 @@
 // What is wrong with an entry: a cause at a byte, and then in which shelf and at which place.
 ghost use Rattle.std.specs.Prelude.{◌≡◌};
-ghost use Rattle.shelf.specs.Faults.{cause_number, in_shelf};
-ghost use Rattle.shelf.specs.Shelves.{placed, byteless};
+ghost use Rattle.shelf.specs.Faults.{cause_number, at_byte, in_shelf};
+ghost use Rattle.shelf.specs.Shelves.{placed};
 
 use crate::form::Axiom;
 
-// Why an entry is faulty.
+// Why an entry is faulty. The cases have the numbers under which they are reported.
 #[derive(Clone, Copy, PartialEq, Eq, Debug)]
 pub enum Cause {
     // the place asked is not on the list
-    Outside,
+    Outside = 0,
     // a catalogue's count or contents cannot be read
-    Contents,
+    Contents = 1,
     // a contents line names no body
-    Line,
+    Line = 2,
     // no such kind of axiom
-    Kind,
+    Kind = 3,
     // the first field, or a role of a record
-    First,
+    First = 4,
     // the second field, or the right side of a record
-    Second,
+    Second = 5,
     // the list of left terms
-    Left,
+    Left = 6,
     // more entries than a shelf may have
-    TooLong,
+    TooLong = 7,
 }
 
 impl Cause {
@@ -31,16 +31,7 @@ impl Cause {
     pub fn number(self) -> u8
         ensures { result ≡ cause_number self }
     {
-        match self {
-            Cause::Outside => 0,
-            Cause::Contents => 1,
-            Cause::Line => 2,
-            Cause::Kind => 3,
-            Cause::First => 4,
-            Cause::Second => 5,
-            Cause::Left => 6,
-            Cause::TooLong => 7,
-        }
+        self as u8
     }
 }
 
@@ -49,6 +40,15 @@ impl Cause {
 pub struct ByteFault {
     pub cause: Cause,
     pub byte: usize,
+}
+
+// A fault that concerns no byte.
+impl From<Cause> for ByteFault {
+    ghost from_gives = { λ c f. f ≡ at_byte c 0 };
+
+    fn from(cause: Cause) -> ByteFault {
+        ByteFault { cause, byte: 0 }
+    }
 }
 
 // A place of a shelf: the shelf's mark, and the place counted from 1.
@@ -81,15 +81,12 @@ pub type Entry = Result<Axiom, ShelfFault>;
 pub fn located(read: Result<Axiom, ByteFault>, origin: Origin) -> Entry
     ensures { result ≡ placed origin.mark origin.place read }
 {
-    match read {
-        Ok(axiom) => Ok(axiom),
-        Err(fault) => Err((fault, origin).into()),
-    }
+    read.map_err(|fault| ShelfFault::from((fault, origin)))
 }
 
-// The entry for a fault that concerns no byte.
-pub(crate) fn without_byte(cause: Cause, origin: Origin) -> Entry
-    ensures { result ≡ byteless origin.mark origin.place cause }
+// The fault of a place that concerns no byte.
+pub fn without_byte(cause: Cause, origin: Origin) -> ShelfFault
+    ensures { result ≡ in_shelf (at_byte cause 0) origin }
 {
-    located(Err(ByteFault { cause, byte: 0 }), origin)
+    ShelfFault::from((ByteFault::from(cause), origin))
 }

@@ -7,7 +7,7 @@ use numbers::term::Term;
 use numbers::term_set::TermSet;
 
 // An axiom over a left side of the kind L. A filler is a term, or `None` for everything.
-#[derive(Clone, Copy, PartialEq, Debug)]
+#[derive(Clone, Copy, PartialEq, Eq, Debug)]
 pub enum Form<L> {
     // every thing that carries the left carries the term
     Under {
@@ -47,6 +47,7 @@ pub enum Form<L> {
 pub type Axiom = Form<TermSet>;
 
 // Whether two axioms are the same: their form and all their parts agree.
+#[tactic(auto, using(crate::proofs::SameAxioms::axiom_known, crate::proofs::SameAxioms::axiom_itself))]
 pub fn same(a: &Axiom, b: &Axiom) -> bool
     ensures { Decides result (a.now ≡ b.now) }
 {
@@ -57,10 +58,7 @@ pub fn same(a: &Axiom, b: &Axiom) -> bool
 fn filler_in_range(filler: Option<Term>) -> bool
     ensures { result ≡ is_filler filler }
 {
-    match filler {
-        None => true,
-        Some(term) => term.in_range(),
-    }
+    filler.is_none_or(|term| term.in_range())
 }
 
 impl<L> Form<L> {

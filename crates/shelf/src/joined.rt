@@ -4,7 +4,7 @@ ghost use Rattle.shelf.specs.EntryLists.{all_short, joined_sound};
 ghost use Rattle.shelf.specs.Shelves.{at_most_all};
 
 use crate::fault::{Entry, Origin};
-use crate::limit::{beyond, limited_count};
+use crate::limit::{index, limited_count};
 use crate::shelf::Shelf;
 
 // The first list and then the second, faults as they are. If both together exceed 65,535 entries, one fault.
@@ -52,17 +52,13 @@ impl<A: Shelf, B: Shelf> Shelf for Joined<A, B> {
     }
 
     fn entry(&self, place: u16) -> Entry {
+        let mark = self.mark;
+        let _on_the_list = index(self.total(), Origin { mark, place })?;
         let first = self.first.count();
-        match beyond(
-            self.total(),
-            Origin {
-                mark: self.mark,
-                place,
-            },
-        ) {
-            Some(entry) => entry,
-            None if place <= first => self.first.entry(place),
-            None => self.second.entry(place - first),
+        if place <= first {
+            self.first.entry(place)
+        } else {
+            self.second.entry(place - first)
         }
     }
 }

@@ -5,7 +5,7 @@ ghost use Rattle.shelf.specs.RecordLists.{records_short, records_sound};
 
 use crate::fault::{ByteFault, Cause, Entry, Origin, located};
 use crate::form::Axiom;
-use crate::limit::{beyond, limited_count};
+use crate::limit::{index, limited_count};
 use crate::shelf::Shelf;
 
 // A record with a role outside 1 to 16 is a fault of the first field, with a wrong right side of the second.
@@ -29,16 +29,10 @@ fn read(row: &Axiom) -> Result<Axiom, ByteFault>
     ensures { result ≡ read_record row.now }
 {
     if !row.roles_in_range() {
-        return Err(ByteFault {
-            cause: Cause::First,
-            byte: 0,
-        });
+        return Err(Cause::First.into());
     }
     if !row.right_in_range() {
-        return Err(ByteFault {
-            cause: Cause::Second,
-            byte: 0,
-        });
+        return Err(Cause::Second.into());
     }
     Ok(*row)
 }
@@ -52,18 +46,16 @@ impl<'a> Shelf for Records<'a> {
 
     ghost sound = { λ s. records_sound s.mark s.records.now };
 
+    #[tactic(auto, using(crate::specs::RecordLists::length_records))]
     fn count(&self) -> u16 {
         limited_count(self.records.len())
     }
 
+    #[tactic(auto, using(crate::specs::RecordLists::length_records, crate::specs::RecordLists::records_at))]
     fn entry(&self, place: u16) -> Entry {
-        let origin = Origin {
-            mark: self.mark,
-            place,
-        };
-        match beyond(self.records.len(), origin) {
-            Some(entry) => entry,
-            None => located(read(&self.records[place as usize - 1]), origin),
-        }
+        let mark = self.mark;
+        let origin = Origin { mark, place };
+        let i = index(self.records.len(), origin)?;
+        located(read(&self.records[i]), origin)
     }
 }

@@ -1,7 +1,9 @@
 // What a shelf is: a list that can be asked, and a mark.
 ghost use Rattle.std.specs.Prelude.{◌≡◌, ℕ, ◌≤◌, true, List, length};
 ghost use Rattle.shelf.specs.Shelves.{Entry, entry_at, all_sound};
+ghost use Rattle.shelf.specs.Coming.{entries_left};
 
+use crate::entries::Entries;
 use crate::fault::Entry;
 
 // A shelf means a list of at most 65,535 entries and has a mark. Both answers are those of the list and the
@@ -26,4 +28,11 @@ pub trait Shelf {
     // The entry at a place counted from 1; outside the list, a fault that says so.
     fn entry(&self, place: u16) -> Entry
         ensures { result ≡ entry_at (list self.now) (mark self.now) place };
+
+    // The entries in order.
+    final fn entries(&self) -> Entries<'_, Self>
+        ensures { entries_left list result ≡ list self.now }
+    {
+        Entries::of(self)
+    }
 }

@@ -1,90 +1,45 @@
-// What a term set has as members, by operations on its word.
-ghost use Rattle.std.specs.Prelude.{◌≡◌, ◌↔◌, not, IsTrue, ◌==◌, bit_and, nat_eq};
-ghost use Rattle.std.specs.Ordering.{on};
-ghost use Rattle.numbers.specs.Bits.{word_single};
-ghost use Rattle.numbers.specs.TermSets.{term_word, term_has, term_number, term_none, term_single, term_covers, term_joined};
-ghost use Rattle.numbers.specs.SetsLawful.{term_laws};
-ghost use Rattle.std.specs.Cmp.Rules.{comparing};
-ghost use Rattle.std.proofs.Common.{rules};
+// What a term set has as members.
+ghost use Rattle.std.specs.Prelude.{◌≡◌, refl};
+ghost use Rattle.std.proofs.Common.{lit≤, mod-eq_of_lt};
+ghost use Rattle.numbers.specs.TermSets.{term_word, term_number};
+ghost use Rattle.numbers.specs.SetsLawful.{same_terms};
 
 use super::TermSet;
-use crate::set::NumberSet;
 use crate::term::Term;
+use crate::word_set::WordSet;
 
-// The word in which only the term's bit is 1, or 0 where the term is no possible member.
-fn mask(term: Term) -> u64
-    ensures { result ≡ word_single 64 (term_number term) }
-{
-    match term.0 {
-        1..=64 => 1 << (term.0 - 1),
-        _ => 0,
-    }
-}
-
-// Whether two words have a bit in common.
-fn meet(a: u64, b: u64) -> bool
-    ensures { result ≡ not (bit_and a b == 0) }
-{
-    a & b != 0
-}
-
-// The set that a word stands for.
-fn of_word(bits: u64) -> TermSet
-    ensures { result ≡ term_word bits }
-{
-    TermSet { bits }
-}
-
-impl NumberSet for TermSet {
+impl WordSet for TermSet {
     type Item = Term;
 
-    ghost limit = { 64 };
+    const WIDTH: u8 = 64;
 
-    ghost has = { term_has };
+    ghost WIDTH = { 64 };
+
+    ghost word = { λ s. s.bits };
+
+    ghost of_word = { term_word };
 
     ghost number = { term_number };
 
-    ghost none = { term_none };
+    ghost narrow = { lit≤ tt };
 
-    ghost single = { term_single };
+    ghost small = { λ s. s.small };
 
-    ghost covers = { term_covers };
+    ghost kept = { λ x h. mod-eq_of_lt h };
 
-    ghost joined = { term_joined };
+    ghost known = { same_terms };
 
-    ghost laws = { term_laws };
+    ghost compared = { λ a b. refl };
 
-    fn empty() -> TermSet {
-        of_word(0)
+    fn word(self) -> u64 {
+        self.bits
     }
 
-    fn only(item: Term) -> TermSet {
-        of_word(mask(item))
+    fn of_word(bits: u64) -> TermSet {
+        TermSet { bits }
     }
 
-    fn contains(self, item: Term) -> bool {
-        meet(self.bits, mask(item))
-    }
-
-    fn includes(self, other: TermSet) -> bool {
-        self.bits & other.bits == other.bits
-    }
-
-    fn union(self, other: TermSet) -> TermSet {
-        of_word(self.bits | other.bits)
-    }
-}
-
-impl PartialEq for TermSet {
-    ghost eq = { on (λ v. v.bits) nat_eq };
-
-    ghost laws = { Prim.search (comparing, rules) };
-
-    // Sets are equal exactly if they are the same.
-    fn eq(&self, other: &TermSet) -> bool
-        ensures compared { result ≡ (self.now.bits == other.now.bits) }
-        ensures same { IsTrue result ↔ (self.now ≡ other.now) }
-    {
-        self.bits == other.bits
+    fn number(item: Term) -> u8 {
+        item.0
     }
 }

@@ -1,13 +1,14 @@
-use Rattle.std.proofs.Common.{ap, ◌∙◌}
+use Rattle.std.proofs.Common.{sym, ap, ◌∙◌, mod-eq_of_lt}
 use Rattle.numbers.specs.Roles.{role_number}
-use Rattle.numbers.specs.RoleSets.{role_word, role_has, role_covers, turned_set}
+use Rattle.numbers.specs.RoleSets.{role_has, role_covers, turned_set}
+use Rattle.numbers.specs.SetsLawful.{same_roles}
 use Rattle.numbers.specs.declared.role_set.RoleSet.{RoleSet}
-use Rattle.numbers.proofs.Turning.{turned_members, turned_back, turned_covers}
+use Rattle.numbers.proofs.Turning.{turned_small, turned_members, turned_back, turned_covers}
 use Rattle.numbers.proofs.role_set.RoleSet.turned.Goals as goal
 
 pub returns : goal.returns
 returns c =
-    let value = c.of_word.ensures ∙ ap role_word c.exchanged.ensures in
+    let value = same_roles _ _ (c.exchanged.ensures ∙ sym (mod-eq_of_lt (turned_small c.args.self.bits c.args.self.small))) in
     record {
       value = value;
       members = λ role. ap (λ (s : RoleSet). role_has s (role_number role)) value ∙ turned_members c.args.self role;
