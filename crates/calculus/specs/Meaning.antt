@@ -7,8 +7,6 @@ use Rattle.shelf.specs.declared.form.Form.{Form}
 use Rattle.shelf.specs.declared.form.Form.TheVariants.{Under, Nothing, Exists, Only, AtMostOne, RoleUnder}
 use Rattle.calculus.specs.Makes.{Makes}
 use Rattle.calculus.specs.declared.pair.Pair.{Pair}
-use Rattle.calculus.specs.declared.pair.Right.{Right}
-use Rattle.calculus.specs.declared.pair.Right.TheVariants.{Carried, Bottom}
 
 -- things are finite lists of whole numbers
 abbrev pub Thing : Type 0
@@ -40,10 +38,10 @@ abbrev pub Fills : Structure → Option Term → Thing → Type 0
 Fills w None x = Unit {0}
 Fills w (Some t) x = w.Carries t.0 x
 
--- no thing carries the bottom
-abbrev pub Shows : Structure → Right → Thing → Type 0
-Shows w (Carried t) x = w.Carries t.0 x
-Shows w Bottom x = ⊥
+-- the right side of a pair: no thing carries the bottom
+abbrev pub Shows : Structure → Option Term → Thing → Type 0
+Shows w None x = ⊥
+Shows w (Some t) x = w.Carries t.0 x
 
 module _ {S : Type 0} (m : Makes S) (w : Structure) where
   -- a thing carries a set if it carries each of its terms

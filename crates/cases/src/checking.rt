@@ -39,10 +39,12 @@ fn check_noted<S: Shelf>(
 ) -> Result<(), Fail> {
     let count = shelf.count();
     assert_eq!(rt; count as usize, expected.len(), "{note:?}");
-    let mut place = 0u16;
-    for entry in expected {
-        place = place.wrapping_add(1);
+    for (place, entry) in (1..=count).zip(expected) {
         assert_eq!(rt; shelf.entry(place), *entry, "{} of {note:?}", place);
+    }
+    assert_eq!(rt; shelf.entries().count(), expected.len(), "{note:?}");
+    for (entry, wanted) in shelf.entries().zip(expected) {
+        assert_eq!(rt; entry, *wanted, "{note:?}");
     }
     check_outside(rt, shelf, mark, &[0, count.wrapping_add(1), 65535]);
     Ok(())

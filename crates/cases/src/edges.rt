@@ -16,11 +16,9 @@ fn many_bodies(heap: Global) -> Result<Vec<u8>, AllocError> {
     let first: &[u8] = &[2, 0, 0];
     let between: &[u8] = &[6, 1, 2];
     let last: &[u8] = &[1, 0, 64];
-    let mut bodies = vec![in heap; first]?;
-    for _ in 0..510 {
-        bodies.push(between)?;
-    }
-    bodies.push(last)?;
+    let mut bodies = vec![in heap; between; 512]?;
+    bodies[0] = first;
+    bodies[511] = last;
     catalogue_bytes(heap, bodies.as_slice())
 }
 

@@ -33,20 +33,14 @@ pub(crate) fn backward(number: u8) -> DirectedRole {
 
 // The set of the terms of these numbers.
 pub(crate) fn terms(numbers: &[u8]) -> TermSet {
-    let mut set = TermSet::empty();
-    for number in numbers {
-        set = set.union(TermSet::only(Term(*number)));
-    }
-    set
+    numbers
+        .iter()
+        .fold(TermSet::empty(), |set, number| set.with(Term(*number)))
 }
 
 // The set of all 64 terms.
 pub(crate) fn all_terms() -> TermSet {
-    let mut set = TermSet::empty();
-    for number in 1..=64u8 {
-        set = set.union(TermSet::only(Term(number)));
-    }
-    set
+    (1..=64u8).fold(TermSet::empty(), |set, number| set.with(Term(number)))
 }
 
 // The axiom that what carries the terms of the left carries the term of a number.
@@ -104,9 +98,7 @@ pub(crate) fn fault(cause: Cause, byte: usize, mark: u16, place: u16) -> ShelfFa
 
 // Adds a number of two bytes, high byte first.
 pub(crate) fn push_word(bytes: &mut Vec<u8>, word: usize) -> Result<(), AllocError> {
-    bytes.push((word >> 8 & 0xff) as u8)?;
-    bytes.push((word & 0xff) as u8)?;
-    Ok(())
+    bytes.extend_from_slice(&((word & 0xffff) as u16).to_be_bytes())
 }
 
 // The bytes of the catalogue that has these bodies.
@@ -128,8 +120,6 @@ pub(crate) fn catalogue_bytes(heap: Global, bodies: &[&[u8]]) -> Result<Vec<u8>,
 // The body of 67 bytes that says that nothing carries all 64 terms.
 pub(crate) fn longest_body(heap: Global) -> Result<Vec<u8>, AllocError> {
     let mut body = vec![in heap; 2u8, 0, 0]?;
-    for number in 1..=64u8 {
-        body.push(number)?;
-    }
+    body.extend(1..=64u8)?;
     Ok(body)
 }

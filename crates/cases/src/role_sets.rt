@@ -3,25 +3,22 @@ use crate::making::{backward, forward};
 use numbers::role::DirectedRole;
 use numbers::role_set::RoleSet;
 use numbers::set::NumberSet;
+use numbers::word_set::WordSet;
 use std::process::Abort;
 use std::test::Fail;
 
 // The set of these roles.
 fn roles(members: &[DirectedRole]) -> RoleSet {
-    let mut set = RoleSet::empty();
-    for role in members {
-        set = set.union(RoleSet::only(*role));
-    }
-    set
+    members
+        .iter()
+        .fold(RoleSet::empty(), |set, role| set.with(*role))
 }
 
 // The set of the roles 1 to 16 in both directions.
 fn all_roles() -> RoleSet {
-    let mut set = RoleSet::empty();
-    for number in 1..=16u8 {
-        set = set.union(roles(&[forward(number), backward(number)]));
-    }
-    set
+    (1..=16u8).fold(RoleSet::empty(), |set, number| {
+        set.with(forward(number)).with(backward(number))
+    })
 }
 
 // A role means something in both directions if its number is from 1 to 16.
@@ -104,6 +101,25 @@ fn a_role_union_has_both_members(rt: HostRuntime) {
     }
     assert_eq!(rt; union, roles(&[forward(16), backward(3), forward(1)]));
     assert_eq!(rt; union.union(RoleSet::empty()), union);
+}
+
+// A set is the set of its word: forward roles by the lower half, backward ones by the upper half, and no other bit counts.
+#[test]
+fn a_role_set_is_its_word(rt: HostRuntime) {
+    let cases = [
+        (0, RoleSet::empty()),
+        (1, roles(&[forward(1)])),
+        (1 << 15, roles(&[forward(16)])),
+        (1 << 16, roles(&[backward(1)])),
+        (1 << 31 | 2, roles(&[backward(16), forward(2)])),
+        (0xffff_ffff, all_roles()),
+    ];
+    for (word, set) in cases {
+        assert_eq!(rt; RoleSet::of_word(word), set);
+        assert_eq!(rt; set.word(), word);
+    }
+    assert_eq!(rt; RoleSet::of_word(1 << 32), RoleSet::empty());
+    assert_eq!(rt; RoleSet::of_word(u64::MAX), all_roles());
 }
 
 // Checks that a set is this one when it is turned, and itself when it is turned twice.

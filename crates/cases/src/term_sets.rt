@@ -3,6 +3,7 @@ use crate::making::{all_terms, terms};
 use numbers::set::NumberSet;
 use numbers::term::Term;
 use numbers::term_set::TermSet;
+use numbers::word_set::WordSet;
 
 // A term means something if its number is from 1 to 64.
 #[test]
@@ -44,6 +45,46 @@ fn a_term_out_of_range_is_no_member(rt: HostRuntime) {
         assert_ne!(rt; TermSet::only(Term(number)), TermSet::empty(), "{}", number);
         assert!(rt; all_terms().contains(Term(number)), "{}", number);
     }
+}
+
+// The terms of a set come rising, each once, and none comes that means nothing.
+#[test]
+fn the_terms_of_a_set_rise(rt: HostRuntime) {
+    let cases: [(&[u8], &[u8]); 5] = [
+        (&[], &[]),
+        (&[0, 65, 255], &[]),
+        (&[1], &[1]),
+        (&[64, 1, 33, 64, 32], &[1, 32, 33, 64]),
+        (&[63, 64], &[63, 64]),
+    ];
+    for (numbers, expected) in cases {
+        let set = terms(numbers);
+        assert_eq!(rt; set.terms().count(), expected.len(), "{numbers:?}");
+        for (term, number) in set.terms().zip(expected) {
+            assert_eq!(rt; term, Term(*number), "{numbers:?}");
+        }
+    }
+    for (term, number) in all_terms().terms().zip(1..=64u8) {
+        assert_eq!(rt; term, Term(number));
+    }
+    assert_eq!(rt; all_terms().terms().count(), 64);
+}
+
+// A set is the set of its word, the term 1 by the lowest bit.
+#[test]
+fn a_term_set_is_its_word(rt: HostRuntime) {
+    let cases: [(u64, &[u8]); 5] = [
+        (0, &[]),
+        (1, &[1]),
+        (6, &[2, 3]),
+        (1 << 63, &[64]),
+        (1 << 31 | 1 << 32, &[32, 33]),
+    ];
+    for (word, numbers) in cases {
+        assert_eq!(rt; TermSet::of_word(word), terms(numbers), "{numbers:?}");
+        assert_eq!(rt; terms(numbers).word(), word, "{numbers:?}");
+    }
+    assert_eq!(rt; TermSet::of_word(u64::MAX), all_terms());
 }
 
 // A set includes another if each member of the other is one of its own.
