@@ -1,13 +1,15 @@
 // A shelf over the bytes of a catalogue.
-ghost use Rattle.std.specs.Prelude.{◌≡◌};
-ghost use Rattle.numbers.specs.Bits.{possible};
+ghost use Rattle.std.specs.Prelude.{◌≡◌, ◌==◌, if◌then◌else◌};
+ghost use Rattle.shelf.specs.Faults.{at_byte};
 ghost use Rattle.shelf.specs.Shelves.{placed};
 ghost use Rattle.catalogue.specs.Bodies.{to_axiom};
 ghost use Rattle.catalogue.specs.Catalogues.{catalogue_list};
 ghost use Rattle.catalogue.specs.CatalogueLists.{catalogue_short, catalogue_sound};
-ghost use Rattle.catalogue.specs.Handed.{seen, handed, body_at};
+ghost use Rattle.catalogue.specs.Handed.{seen, handed, read_at, body_at};
 
-use crate::{body, contents};
+use crate::body;
+use crate::contents::Contents;
+use crate::fault::at_byte;
 use shelf::fault::{ByteFault, Cause, Entry, Origin, ShelfFault, located};
 use shelf::form::{Axiom, Form};
 use shelf::shelf::Shelf;
@@ -44,11 +46,14 @@ impl<'a> Body<'a> {
     }
 }
 
-// Whether a place counted from 1 is one of so many.
-fn is_place(place: u16, count: u16) -> bool
-    ensures { result ≡ possible count place }
+// The fault at a place of a catalogue that cannot be read: the first place says so, the others are outside.
+fn unread(place: u16) -> ByteFault
+    ensures { result ≡ at_byte (if place == 1 then Cause.Contents else Cause.Outside) 0 }
 {
-    place >= 1 && place <= count
+    match place {
+        1 => at_byte(Cause::Contents, 0),
+        _ => at_byte(Cause::Outside, 0),
+    }
 }
 
 impl<'a> Catalogue<'a> {
@@ -59,6 +64,19 @@ impl<'a> Catalogue<'a> {
         Catalogue { bytes, mark }
     }
 
+    // What is read at a place counted from 1.
+    fn read(&self, place: u16) -> Result<Body<'a>, ByteFault>
+        ensures { handed result ≡ read_at self.now.bytes.now place }
+    {
+        let contents = Contents::read(self.bytes).ok_or(unread(place))?;
+        if !contents.has(place) {
+            return Err(at_byte(Cause::Outside, 0));
+        }
+        let start = contents.line(place - 1).start;
+        let form = contents.form(place - 1)?;
+        Ok(Body { place, start, form })
+    }
+
     // The body at a place counted from 1.
     pub fn body(&self, place: u16) -> Result<Body<'a>, ShelfFault>
         ensures { handed result ≡ body_at self.now.bytes.now self.now.mark place }
@@ -67,28 +85,8 @@ impl<'a> Catalogue<'a> {
             mark: self.mark,
             place,
         };
-        let Some(count) = contents::count(self.bytes) else {
-            let cause = if place == 1 {
-                Cause::Contents
-            } else {
-                Cause::Outside
-            };
-            return Err(ShelfFault::from((ByteFault { cause, byte: 0 }, origin)));
-        };
-        if !is_place(place, count) {
-            return Err(ShelfFault::from((
-                ByteFault {
-                    cause: Cause::Outside,
-                    byte: 0,
-                },
-                origin,
-            )));
-        }
-        let start = contents::start(self.bytes, place - 1);
-        match contents::form(self.bytes, count, place - 1) {
-            Ok(form) => Ok(Body { place, start, form }),
-            Err(fault) => Err(ShelfFault::from((fault, origin))),
-        }
+        self.read(place)
+            .map_err(|fault| ShelfFault::from((fault, origin)))
     }
 }
 
@@ -101,10 +99,12 @@ impl<'a> Shelf for Catalogue<'a> {
 
     ghost sound = { λ s. catalogue_sound s.bytes.now s.mark };
 
+    #[tactic(auto, using(crate::proofs::CatalogueBodies::count_read, crate::proofs::CatalogueBodies::count_unread))]
     fn count(&self) -> u16 {
-        contents::count(self.bytes).unwrap_or(1)
+        Contents::read(self.bytes).map_or(1, Contents::count)
     }
 
+    #[tactic(auto, using(crate::proofs::CatalogueBodies::entry_stated))]
     fn entry(&self, place: u16) -> Entry {
         let body = self.body(place)?;
         body.entry(self.mark)
