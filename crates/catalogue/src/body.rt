@@ -1,9 +1,9 @@
 // The body of a catalogue's entry: a kind byte, two fields and the list of left terms.
-ghost use Rattle.std.specs.Prelude.{◌≡◌, ◌+◌, ◌≤◌, ◌&&◌, length, nat_lt};
-ghost use Rattle.numbers.specs.Bits.{possible};
-ghost use Rattle.catalogue.specs.Bodies.{and_then, first_field, second_field, of_fields, no_left, role_of, term_of, filler_of, zero_of, read_form, left_set, to_axiom};
-ghost use Rattle.shelf.specs.Faults.{at_byte};
+ghost use Rattle.std.specs.Prelude.{◌≡◌, ◌≤◌, ◌&&◌, length, nat_lt};
 ghost use Rattle.std.specs.Option.{ok_or};
+ghost use Rattle.numbers.specs.Bits.{possible};
+ghost use Rattle.catalogue.specs.Bodies.{and_then, no_left, role_of, term_of, filler_of, zero_of, read_form, left_set, to_axiom};
+ghost use Rattle.shelf.specs.Faults.{at_byte};
 ghost use Rattle.catalogue.specs.Handed.{viewed, seen};
 ghost use Rattle.shelf.specs.declared.form.Form.TheVariants.{RoleUnder};
 
@@ -15,7 +15,7 @@ use numbers::term_set::TermSet;
 use shelf::fault::{ByteFault, Cause};
 use shelf::form::{Axiom, Form};
 
-// A byte of a body, and the fault of the entry where it is not what it has to be.
+// A byte of a body with the fault that the entry has where the byte is not what it has to be.
 #[derive(Clone, Copy)]
 struct Field {
     byte: u8,
@@ -145,7 +145,7 @@ fn is_next(term: Term, before: u8) -> bool
 }
 
 // The set of the left list of a body that starts at the byte `at`: each term is above the one before.
-// The loop keeps the byte before, and no `is_sorted` or `windows`: a fault says which byte is wrong, the first one too.
+// A loop that keeps the byte before: a fault names the first byte that is wrong, which `is_sorted` does not tell.
 fn left_terms(at: u16, left: &[u8]) -> Result<TermSet, ByteFault>
     ensures { result ≡ left_set at left.now }
 {
@@ -163,7 +163,7 @@ fn left_terms(at: u16, left: &[u8]) -> Result<TermSet, ByteFault>
 }
 
 // The axiom that a form states, whose body starts at the byte `at`.
-// The six forms are written out: a function that maps the left side of any form would write them too, for this caller alone.
+// The six forms stand here: a function that maps the left side of any form would list them too, for this caller alone.
 pub(crate) fn axiom(at: u16, form: Form<&[u8]>) -> Result<Axiom, ByteFault>
     ensures { result ≡ to_axiom at (seen form.entry) }
 {

@@ -1,7 +1,7 @@
 // The contents of a catalogue: the count, and a line for each entry that names its body.
-ghost use Rattle.std.specs.Prelude.{◌≡◌, ◌+◌, ◌*◌, ◌<◌, ◌≤◌, ◌==◌, ◌&&◌, ◌||◌, length, take, drop, nat_le, nat_lt, true, false, MatchOption};
+ghost use Rattle.std.specs.Prelude.{◌≡◌, ◌+◌, ◌*◌, ◌<◌, ◌≤◌, true, false, length, take, drop, MatchOption};
 ghost use Rattle.numbers.specs.Bits.{possible};
-ghost use Rattle.catalogue.specs.Catalogues.{word_at, entries, readable, start_of, size_of, due_start, line_right, body_of, form_of};
+ghost use Rattle.catalogue.specs.Catalogues.{word_at, entries, readable, start_of, size_of, due_start, line_right, form_of};
 ghost use Rattle.catalogue.specs.Handed.{viewed};
 
 use crate::body;
@@ -42,7 +42,7 @@ impl Line {
     }
 }
 
-// The bytes of a catalogue whose contents can be read, and how many entries they have.
+// The bytes of a catalogue whose contents can be read, and how many entries they say that it has: there is a line for each.
 #[derive(Clone, Copy)]
 pub(crate) struct Contents<'a> {
     bytes: &'a [u8],

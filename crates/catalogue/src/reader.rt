@@ -14,6 +14,7 @@ use shelf::fault::{ByteFault, Cause, Entry, Origin, ShelfFault, located};
 use shelf::form::{Axiom, Form};
 use shelf::shelf::Shelf;
 
+// The catalogue that some bytes are, with the mark that it was given at its making.
 #[derive(Clone, Copy)]
 pub struct Catalogue<'a> {
     bytes: &'a [u8],
@@ -57,6 +58,7 @@ fn unread(place: u16) -> ByteFault
 }
 
 impl<'a> Catalogue<'a> {
+    // A catalogue of these bytes, whether or not they can be read, and with this mark.
     pub fn new(bytes: &'a [u8], mark: u16) -> Catalogue<'a>
         ensures bytes { result.bytes.now ≡ bytes.now }
         ensures mark { result.mark ≡ mark }
@@ -64,7 +66,7 @@ impl<'a> Catalogue<'a> {
         Catalogue { bytes, mark }
     }
 
-    // What is read at a place counted from 1.
+    // The body at a place counted from 1, or what is wrong at which byte.
     fn read(&self, place: u16) -> Result<Body<'a>, ByteFault>
         ensures { handed result ≡ read_at self.now.bytes.now place }
     {
@@ -77,7 +79,7 @@ impl<'a> Catalogue<'a> {
         Ok(Body { place, start, form })
     }
 
-    // The body at a place counted from 1.
+    // The body at a place counted from 1, or what is wrong there.
     pub fn body(&self, place: u16) -> Result<Body<'a>, ShelfFault>
         ensures { handed result ≡ body_at self.now.bytes.now self.now.mark place }
     {
@@ -86,7 +88,7 @@ impl<'a> Catalogue<'a> {
             place,
         };
         self.read(place)
-            .map_err(|fault| ShelfFault::from((fault, origin)))
+            .map_err(|fault| ShelfFault { fault, origin })
     }
 }
 
@@ -99,7 +101,7 @@ impl<'a> Shelf for Catalogue<'a> {
 
     ghost sound = { λ s. catalogue_sound s.bytes.now s.mark };
 
-    #[tactic(auto, using(crate::proofs::CatalogueBodies::count_read, crate::proofs::CatalogueBodies::count_unread))]
+    #[tactic(auto, using(crate::proofs::CatalogueBodies::count_listed))]
     fn count(&self) -> u16 {
         Contents::read(self.bytes).map_or(1, Contents::count)
     }
