@@ -111,8 +111,7 @@ impl<'a> Contents<'a> {
     {
         let line = self.line(i);
         line.start as usize == self.due(i)
-            && line.size >= 3
-            && line.size <= 67
+            && (3..=67).contains(&line.size)
             && line.end() <= self.bytes.len()
             && (i + 1 < self.count || line.end() == self.bytes.len())
     }
