@@ -1,7 +1,7 @@
 // The contents of a catalogue: the count, and a line for each entry that names its body.
 ghost use Rattle.std.specs.Prelude.{◌≡◌, ◌+◌, ◌*◌, ◌<◌, ◌≤◌, true, false, length, take, drop, MatchOption};
 ghost use Rattle.numbers.specs.Bits.{possible};
-ghost use Rattle.catalogue.specs.Catalogues.{word_at, entries, readable, start_of, size_of, due_start, line_right, form_of};
+ghost use Rattle.catalogue.specs.Catalogues.{word_at, entries, readable, line_byte, start_of, size_of, due_start, line_right, form_of};
 ghost use Rattle.catalogue.specs.Handed.{viewed};
 
 use crate::body;
@@ -15,6 +15,13 @@ fn word(bytes: &[u8], at: usize) -> u16
     ensures { result ≡ word_at bytes.now at }
 {
     u16::from_be_bytes([bytes[at], bytes[at + 1]])
+}
+
+// The first byte of the contents line i, counted from 0; for as many lines as there are, the byte after them.
+fn line_byte(i: u16) -> usize
+    ensures { result ≡ line_byte i }
+{
+    2 + 4 * i as usize
 }
 
 // Where a contents line says that its body starts, and how long it is.
@@ -57,7 +64,7 @@ impl<'a> Contents<'a> {
         ensures { MatchOption result (readable bytes.now ≡ false) (λ c. (readable bytes.now ≡ true) × (c.bytes.now ≡ bytes.now)) }
     {
         let count = u16::from_be_bytes(*bytes.first_chunk()?);
-        if count > 512 || bytes.len() < 2 + 4 * count as usize {
+        if count > 512 || bytes.len() < line_byte(count) {
             return None;
         }
         if count == 0 && bytes.len() != 2 {
@@ -86,7 +93,7 @@ impl<'a> Contents<'a> {
         ensures start { result.start ≡ start_of self.entry.bytes.now i }
         ensures size { result.size ≡ size_of self.entry.bytes.now i }
     {
-        let at = 2 + 4 * i as usize;
+        let at = line_byte(i);
         Line {
             start: word(self.bytes, at),
             size: word(self.bytes, at + 2),
@@ -99,7 +106,7 @@ impl<'a> Contents<'a> {
         ensures { result ≡ due_start self.entry.bytes.now i }
     {
         match i {
-            0 => 2 + 4 * self.count as usize,
+            0 => line_byte(self.count),
             _ => self.line(i - 1).end(),
         }
     }
@@ -122,7 +129,7 @@ impl<'a> Contents<'a> {
         ensures { viewed result ≡ form_of self.entry.bytes.now i }
     {
         if !self.is_right(i) {
-            return Err(at_byte(Cause::Line, 2 + 4 * i as usize));
+            return Err(at_byte(Cause::Line, line_byte(i)));
         }
         let line = self.line(i);
         body::form(line.start, line.named(self.bytes))
