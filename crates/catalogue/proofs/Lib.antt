@@ -1,2 +1,1 @@
 pub mod CatalogueBodies
-pub mod LeftLists

@@ -1,6 +1,7 @@
 -- What a catalogue hands out by reference, as the bytes that it refers to. Assumes nothing.
-use Rattle.std.specs.Prelude.{ℕ, ◌-◌, cond, ◌&&◌, List, Ok, Err, Result, ◌==◌, nat_le}
+use Rattle.std.specs.Prelude.{ℕ, ◌-◌, cond, List, Ok, Err, Result, ◌==◌}
 use Rattle.std.specs.Borrow.{Bor}
+use Rattle.numbers.specs.Bits.{possible}
 use Rattle.catalogue.specs.Bodies.{map_left, to_axiom}
 use Rattle.catalogue.specs.Catalogues.{entries, readable, start_of, form_of}
 use Rattle.shelf.specs.Faults.{at_byte, in_shelf, origin}
@@ -29,17 +30,26 @@ abbrev pub handed : {E : Type 0} → Result Body E → Result Part E
 handed (Ok b) = Ok (record { place = b.place; start = b.start; form = seen b.form })
 handed (Err e) = Err e
 
--- what was read at the place p of a catalogue with the mark m, where the body starts at the byte `at`
-abbrev pub part_of : ℕ → ℕ → ℕ → Result (Form (List ℕ)) ByteFault → Result Part ShelfFault
-part_of m p at (Ok f) = Ok (record { place = p; start = at; form = f })
-part_of m p at (Err e) = Err (in_shelf e (origin m p))
+-- what was read at the place p, where the body starts at the byte `at`
+abbrev pub part_of : ℕ → ℕ → Result (Form (List ℕ)) ByteFault → Result Part ByteFault
+part_of p at (Ok f) = Ok (record { place = p; start = at; form = f })
+part_of p at (Err e) = Err e
 
--- the body at a place counted from 1; of a catalogue that cannot be read, the first place says so
-abbrev pub body_at : List ℕ → ℕ → ℕ → Result Part ShelfFault
-body_at bs m p =
+-- what is read at a place counted from 1; of a catalogue that cannot be read, the first place says so
+abbrev pub read_at : List ℕ → ℕ → Result Part ByteFault
+read_at bs p =
     cond (readable bs)
-    (cond (nat_le 1 p && nat_le p (entries bs)) (part_of m p (start_of bs (p - 1)) (form_of bs (p - 1))) (Err (in_shelf (at_byte Outside 0) (origin m p))))
-    (Err (in_shelf (at_byte (cond (p == 1) Contents Outside) 0) (origin m p)))
+    (cond (possible (entries bs) p) (part_of p (start_of bs (p - 1)) (form_of bs (p - 1))) (Err (at_byte Outside 0)))
+    (Err (at_byte (cond (p == 1) Contents Outside) 0))
+
+-- the same in a shelf with the mark m: a fault with the place where it stands
+abbrev pub in_place : ℕ → ℕ → Result Part ByteFault → Result Part ShelfFault
+in_place m p (Ok b) = Ok b
+in_place m p (Err e) = Err (in_shelf e (origin m p))
+
+-- the body at a place of a catalogue with the mark m
+abbrev pub body_at : List ℕ → ℕ → ℕ → Result Part ShelfFault
+body_at bs m p = in_place m p (read_at bs p)
 
 -- the entry of a shelf with the mark m that such a body gives
 abbrev pub stated : ℕ → Result Part ShelfFault → Entry

@@ -1,12 +1,13 @@
 // The body of a catalogue's entry: a kind byte, two fields and the list of left terms.
-ghost use Rattle.std.specs.Prelude.{◌≡◌, ◌+◌, ◌≤◌, ◌&&◌, length, nat_lt};
+ghost use Rattle.std.specs.Prelude.{◌≡◌, ◌≤◌, ◌&&◌, length, nat_lt};
+ghost use Rattle.std.specs.Option.{ok_or};
 ghost use Rattle.numbers.specs.Bits.{possible};
-ghost use Rattle.catalogue.specs.Bodies.{and_then, first_field, second_field, of_fields, no_left, role_of, term_of, filler_of, zero_of, read_form, left_set, to_axiom};
+ghost use Rattle.catalogue.specs.Bodies.{and_then, no_left, role_of, term_of, filler_of, zero_of, read_form, left_set, to_axiom};
 ghost use Rattle.shelf.specs.Faults.{at_byte};
-ghost use Rattle.shelf.specs.declared.fault.Cause.TheVariants.{First, Second};
 ghost use Rattle.catalogue.specs.Handed.{viewed, seen};
 ghost use Rattle.shelf.specs.declared.form.Form.TheVariants.{RoleUnder};
 
+use crate::fault::at_byte;
 use numbers::role::{DirectedRole, Role};
 use numbers::set::NumberSet;
 use numbers::term::Term;
@@ -14,137 +15,85 @@ use numbers::term_set::TermSet;
 use shelf::fault::{ByteFault, Cause};
 use shelf::form::{Axiom, Form};
 
-// A role byte: the number, or 128 plus the number where the role is read backward.
-fn role(byte: u8) -> Option<DirectedRole>
-    ensures { result ≡ role_of byte }
-{
-    match byte {
-        1..=16 => Some(DirectedRole::Forward(Role(byte))),
-        129..=144 => Some(DirectedRole::Backward(Role(byte - 128))),
-        _ => None,
-    }
-}
-
-// A term byte.
-fn term(byte: u8) -> Option<Term>
-    ensures { result ≡ term_of byte }
-{
-    match byte {
-        1..=64 => Some(Term(byte)),
-        _ => None,
-    }
-}
-
-// A term byte, or 0 for everything.
-fn filler(byte: u8) -> Option<Option<Term>>
-    ensures { result ≡ filler_of byte }
-{
-    match byte {
-        0 => Some(None),
-        1..=64 => Some(Some(Term(byte))),
-        _ => None,
-    }
-}
-
-// A field that has to be 0.
-fn zero(byte: u8) -> Option<()>
-    ensures { result ≡ zero_of byte }
-{
-    match byte {
-        0 => Some(()),
-        _ => None,
-    }
-}
-
-// The two fields of a body that starts at the byte `at` of its catalogue.
+// A byte of a body with the fault that the entry has where the byte is not what it has to be.
 #[derive(Clone, Copy)]
-struct Fields {
-    at: u16,
-    first: u8,
-    second: u8,
+struct Field {
+    byte: u8,
+    fault: ByteFault,
 }
 
-impl Fields {
-    // The fault of the first field, and of the second.
-    fn in_first(&self) -> ByteFault
-        ensures { result ≡ at_byte First (self.now.at + 1) }
+impl Field {
+    // The field that is read at the byte `at` of the catalogue.
+    fn new(byte: u8, cause: Cause, at: usize) -> Field
+        ensures byte { result.byte ≡ byte }
+        ensures fault { result.fault ≡ at_byte cause at }
     {
-        ByteFault {
-            cause: Cause::First,
-            byte: self.at as usize + 1,
+        Field {
+            byte,
+            fault: at_byte(cause, at),
         }
     }
 
-    fn in_second(&self) -> ByteFault
-        ensures { result ≡ at_byte Second (self.now.at + 2) }
+    // The field as 0.
+    fn zero(self) -> Result<(), ByteFault>
+        ensures { result ≡ ok_or (zero_of self.byte) self.fault }
     {
-        ByteFault {
-            cause: Cause::Second,
-            byte: self.at as usize + 2,
+        match self.byte {
+            0 => Ok(()),
+            _ => Err(self.fault),
         }
     }
 
-    // The first field as 0.
-    fn no_role(&self) -> Result<(), ByteFault>
-        ensures { result ≡ first_field self.now.at (zero_of self.now.first) }
+    // The field as a role: its number, or 128 plus its number where the role is read backward.
+    fn role(self) -> Result<DirectedRole, ByteFault>
+        ensures { result ≡ ok_or (role_of self.byte) self.fault }
     {
-        zero(self.first).ok_or(self.in_first())
-    }
-
-    // The first field as a role.
-    fn role(&self) -> Result<DirectedRole, ByteFault>
-        ensures { result ≡ first_field self.now.at (role_of self.now.first) }
-    {
-        role(self.first).ok_or(self.in_first())
-    }
-
-    // The second field as 0, as a term, as a filler and as a role.
-    fn no_term(&self) -> Result<(), ByteFault>
-        ensures { result ≡ second_field self.now.at (zero_of self.now.second) }
-    {
-        zero(self.second).ok_or(self.in_second())
-    }
-
-    fn term(&self) -> Result<Term, ByteFault>
-        ensures { result ≡ second_field self.now.at (term_of self.now.second) }
-    {
-        term(self.second).ok_or(self.in_second())
-    }
-
-    fn filler(&self) -> Result<Option<Term>, ByteFault>
-        ensures { result ≡ second_field self.now.at (filler_of self.now.second) }
-    {
-        filler(self.second).ok_or(self.in_second())
-    }
-
-    fn upper_role(&self) -> Result<DirectedRole, ByteFault>
-        ensures { result ≡ second_field self.now.at (role_of self.now.second) }
-    {
-        role(self.second).ok_or(self.in_second())
-    }
-
-    // Both fields as 0.
-    fn none(&self) -> Result<(), ByteFault>
-        ensures { result ≡ and_then (first_field self.now.at (zero_of self.now.first)) (λ _. second_field self.now.at (zero_of self.now.second)) }
-    {
-        self.no_role()?;
-        self.no_term()
-    }
-
-    // The inclusion of one role in another, which has no left list.
-    fn inclusion<'a>(&self, left: &'a [u8]) -> Result<Form<&'a [u8]>, ByteFault>
-        ensures { viewed result ≡ of_fields self.now.at (role_of self.now.first) (role_of self.now.second) (λ lower upper. no_left self.now.at left.now (RoleUnder lower upper)) }
-    {
-        let lower = self.role()?;
-        let upper = self.upper_role()?;
-        if !left.is_empty() {
-            return Err(ByteFault {
-                cause: Cause::Left,
-                byte: self.at as usize + 3,
-            });
+        match self.byte {
+            1..=16 => Ok(DirectedRole::Forward(Role(self.byte))),
+            129..=144 => Ok(DirectedRole::Backward(Role(self.byte - 128))),
+            _ => Err(self.fault),
         }
-        Ok(Form::RoleUnder { lower, upper })
     }
+
+    // The field as a term.
+    fn term(self) -> Result<Term, ByteFault>
+        ensures { result ≡ ok_or (term_of self.byte) self.fault }
+    {
+        let term = Term(self.byte);
+        if term.in_range() {
+            Ok(term)
+        } else {
+            Err(self.fault)
+        }
+    }
+
+    // The field as a term, or 0 for everything.
+    fn filler(self) -> Result<Option<Term>, ByteFault>
+        ensures { result ≡ ok_or (filler_of self.byte) self.fault }
+    {
+        match self.byte {
+            0 => Ok(None),
+            _ => self.term().map(Some),
+        }
+    }
+}
+
+// The inclusion of one role in another, where the body that starts at the byte `at` ends after its fields.
+fn inclusion<'a>(
+    at: u16,
+    first: Field,
+    second: Field,
+    left: &'a [u8],
+) -> Result<Form<&'a [u8]>, ByteFault>
+    ensures { viewed result ≡ and_then (ok_or (role_of first.byte) first.fault)
+        (λ lower. and_then (ok_or (role_of second.byte) second.fault) (λ upper. no_left at left.now (RoleUnder lower upper))) }
+{
+    let lower = first.role()?;
+    let upper = second.role()?;
+    if !left.is_empty() {
+        return Err(at_byte(Cause::Left, at as usize + 3));
+    }
+    Ok(Form::RoleUnder { lower, upper })
 }
 
 // The form of a body that starts at the byte `at` of its catalogue. The left list stays a part of the bytes.
@@ -153,75 +102,68 @@ pub(crate) fn form<'a>(at: u16, body: &'a [u8]) -> Result<Form<&'a [u8]>, ByteFa
     ensures { viewed result ≡ read_form at body.now }
 {
     let [kind, first, second, left @ ..] = body else {
-        unreachable()
+        unreachable!()
     };
-    let fields = Fields {
-        at,
-        first: *first,
-        second: *second,
-    };
+    let first = Field::new(*first, Cause::First, at as usize + 1);
+    let second = Field::new(*second, Cause::Second, at as usize + 2);
     match *kind {
         1 => {
-            fields.no_role()?;
-            Ok(Form::Under {
-                left,
-                term: fields.term()?,
-            })
+            first.zero()?;
+            let term = second.term()?;
+            Ok(Form::Under { left, term })
         }
         2 => {
-            fields.none()?;
+            first.zero()?;
+            second.zero()?;
             Ok(Form::Nothing { left })
         }
         3 => Ok(Form::Exists {
             left,
-            role: fields.role()?,
-            filler: fields.filler()?,
+            role: first.role()?,
+            filler: second.filler()?,
         }),
         4 => Ok(Form::Only {
             left,
-            role: fields.role()?,
-            term: fields.term()?,
+            role: first.role()?,
+            term: second.term()?,
         }),
         5 => Ok(Form::AtMostOne {
             left,
-            role: fields.role()?,
-            filler: fields.filler()?,
+            role: first.role()?,
+            filler: second.filler()?,
         }),
-        6 => fields.inclusion(left),
-        _ => Err(ByteFault {
-            cause: Cause::Kind,
-            byte: at as usize,
-        }),
+        6 => inclusion(at, first, second, left),
+        _ => Err(at_byte(Cause::Kind, at as usize)),
     }
 }
 
-// Whether a byte of a left list may stand after the byte before it, or first after 0.
-fn is_next(byte: u8, before: u8) -> bool
-    ensures { result ≡ (possible 64 byte && nat_lt before byte) }
+// Whether a term of a left list may stand after the byte before it, or first after 0.
+fn is_next(term: Term, before: u8) -> bool
+    ensures { result ≡ (possible 64 term.0 && nat_lt before term.0) }
 {
-    byte <= 64 && byte > before
+    term.in_range() && term.0 > before
 }
 
 // The set of the left list of a body that starts at the byte `at`: each term is above the one before.
+// A loop that keeps the byte before: a fault names the first byte that is wrong, which `is_sorted` does not tell.
 fn left_terms(at: u16, left: &[u8]) -> Result<TermSet, ByteFault>
     ensures { result ≡ left_set at left.now }
 {
     let mut set = TermSet::empty();
     let mut before = 0;
     for (i, byte) in left.iter().enumerate() {
-        if !is_next(*byte, before) {
-            return Err(ByteFault {
-                cause: Cause::Left,
-                byte: at as usize + 3 + i,
-            });
+        let term = Term(*byte);
+        if !is_next(term, before) {
+            return Err(at_byte(Cause::Left, at as usize + 3 + i));
         }
-        set = set.union(TermSet::only(Term(*byte)));
+        set = set.union(TermSet::only(term));
         before = *byte;
     }
     Ok(set)
 }
 
 // The axiom that a form states, whose body starts at the byte `at`.
+// The six forms stand here: a function that maps the left side of any form would list them too, for this caller alone.
 pub(crate) fn axiom(at: u16, form: Form<&[u8]>) -> Result<Axiom, ByteFault>
     ensures { result ≡ to_axiom at (seen form.entry) }
 {

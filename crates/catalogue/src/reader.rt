@@ -1,17 +1,20 @@
 // A shelf over the bytes of a catalogue.
-ghost use Rattle.std.specs.Prelude.{◌≡◌};
-ghost use Rattle.numbers.specs.Bits.{possible};
+ghost use Rattle.std.specs.Prelude.{◌≡◌, ◌==◌, if◌then◌else◌};
+ghost use Rattle.shelf.specs.Faults.{at_byte};
 ghost use Rattle.shelf.specs.Shelves.{placed};
 ghost use Rattle.catalogue.specs.Bodies.{to_axiom};
 ghost use Rattle.catalogue.specs.Catalogues.{catalogue_list};
 ghost use Rattle.catalogue.specs.CatalogueLists.{catalogue_short, catalogue_sound};
-ghost use Rattle.catalogue.specs.Handed.{seen, handed, body_at};
+ghost use Rattle.catalogue.specs.Handed.{seen, handed, read_at, body_at};
 
-use crate::{body, contents};
+use crate::body;
+use crate::contents::Contents;
+use crate::fault::at_byte;
 use shelf::fault::{ByteFault, Cause, Entry, Origin, ShelfFault, located};
 use shelf::form::{Axiom, Form};
 use shelf::shelf::Shelf;
 
+// The catalogue that some bytes are, with the mark that it was given at its making.
 #[derive(Clone, Copy)]
 pub struct Catalogue<'a> {
     bytes: &'a [u8],
@@ -44,14 +47,18 @@ impl<'a> Body<'a> {
     }
 }
 
-// Whether a place counted from 1 is one of so many.
-fn is_place(place: u16, count: u16) -> bool
-    ensures { result ≡ possible count place }
+// The fault at a place of a catalogue that cannot be read: the first place says so, the others are outside.
+fn unread(place: u16) -> ByteFault
+    ensures { result ≡ at_byte (if place == 1 then Cause.Contents else Cause.Outside) 0 }
 {
-    place >= 1 && place <= count
+    match place {
+        1 => at_byte(Cause::Contents, 0),
+        _ => at_byte(Cause::Outside, 0),
+    }
 }
 
 impl<'a> Catalogue<'a> {
+    // A catalogue of these bytes, whether or not they can be read, and with this mark.
     pub fn new(bytes: &'a [u8], mark: u16) -> Catalogue<'a>
         ensures bytes { result.bytes.now ≡ bytes.now }
         ensures mark { result.mark ≡ mark }
@@ -59,7 +66,20 @@ impl<'a> Catalogue<'a> {
         Catalogue { bytes, mark }
     }
 
-    // The body at a place counted from 1.
+    // The body at a place counted from 1, or what is wrong at which byte.
+    fn read(&self, place: u16) -> Result<Body<'a>, ByteFault>
+        ensures { handed result ≡ read_at self.now.bytes.now place }
+    {
+        let contents = Contents::read(self.bytes).ok_or(unread(place))?;
+        if !contents.has(place) {
+            return Err(at_byte(Cause::Outside, 0));
+        }
+        let start = contents.line(place - 1).start;
+        let form = contents.form(place - 1)?;
+        Ok(Body { place, start, form })
+    }
+
+    // The body at a place counted from 1, or what is wrong there.
     pub fn body(&self, place: u16) -> Result<Body<'a>, ShelfFault>
         ensures { handed result ≡ body_at self.now.bytes.now self.now.mark place }
     {
@@ -67,28 +87,8 @@ impl<'a> Catalogue<'a> {
             mark: self.mark,
             place,
         };
-        let Some(count) = contents::count(self.bytes) else {
-            let cause = if place == 1 {
-                Cause::Contents
-            } else {
-                Cause::Outside
-            };
-            return Err(ShelfFault::from((ByteFault { cause, byte: 0 }, origin)));
-        };
-        if !is_place(place, count) {
-            return Err(ShelfFault::from((
-                ByteFault {
-                    cause: Cause::Outside,
-                    byte: 0,
-                },
-                origin,
-            )));
-        }
-        let start = contents::start(self.bytes, place - 1);
-        match contents::form(self.bytes, count, place - 1) {
-            Ok(form) => Ok(Body { place, start, form }),
-            Err(fault) => Err(ShelfFault::from((fault, origin))),
-        }
+        self.read(place)
+            .map_err(|fault| ShelfFault { fault, origin })
     }
 }
 
@@ -101,10 +101,12 @@ impl<'a> Shelf for Catalogue<'a> {
 
     ghost sound = { λ s. catalogue_sound s.bytes.now s.mark };
 
+    #[tactic(auto, using(crate::proofs::CatalogueBodies::count_listed))]
     fn count(&self) -> u16 {
-        contents::count(self.bytes).unwrap_or(1)
+        Contents::read(self.bytes).map_or(1, Contents::count)
     }
 
+    #[tactic(auto, using(crate::proofs::CatalogueBodies::entry_stated))]
     fn entry(&self, place: u16) -> Entry {
         let body = self.body(place)?;
         body.entry(self.mark)
