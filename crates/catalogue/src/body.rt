@@ -156,7 +156,7 @@ fn left_terms(at: u16, left: &[u8]) -> Result<TermSet, ByteFault>
         if !is_next(term, before) {
             return Err(at_byte(Cause::Left, at as usize + 3 + i));
         }
-        set = set.union(TermSet::only(term));
+        set = set.with(term);
         before = *byte;
     }
     Ok(set)

@@ -9,7 +9,6 @@ ghost use Rattle.catalogue.specs.Handed.{seen, handed, read_at, body_at};
 
 use crate::body;
 use crate::contents::Contents;
-use crate::fault::at_byte;
 use shelf::fault::{ByteFault, Cause, Entry, Origin, ShelfFault, located};
 use shelf::form::{Axiom, Form};
 use shelf::shelf::Shelf;
@@ -52,8 +51,8 @@ fn unread(place: u16) -> ByteFault
     ensures { result ≡ at_byte (if place == 1 then Cause.Contents else Cause.Outside) 0 }
 {
     match place {
-        1 => at_byte(Cause::Contents, 0),
-        _ => at_byte(Cause::Outside, 0),
+        1 => Cause::Contents.into(),
+        _ => Cause::Outside.into(),
     }
 }
 
@@ -72,7 +71,7 @@ impl<'a> Catalogue<'a> {
     {
         let contents = Contents::read(self.bytes).ok_or(unread(place))?;
         if !contents.has(place) {
-            return Err(at_byte(Cause::Outside, 0));
+            return Err(Cause::Outside.into());
         }
         let start = contents.line(place - 1).start;
         let form = contents.form(place - 1)?;
