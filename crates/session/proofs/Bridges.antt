@@ -9,18 +9,19 @@ use Rattle.shelf.specs.Axioms.{Axiom}
 use Rattle.shelf.specs.declared.form.Form.TheVariants.{Under, Nothing, Exists, Only, AtMostOne, RoleUnder}
 use Rattle.calculus.specs.Makes.{words, has_role, one_role}
 use Rattle.calculus.specs.Rules.{with_roles, with_terms, united}
-use Rattle.calculus.specs.Search.{else_try, first, when, given, as_under, as_nothing, as_exists, as_only, as_at_most_one, as_role_under, missing, each_live, each_axiom, each_need, within, filled, has, readings, search_1, search_2, search_3, search_4, search_5, search_6, search_7, search_8, search_9, search_10, search_11}
+use Rattle.calculus.specs.Search.{else_try, first, when, given, as_under, as_nothing, as_exists, as_only, as_at_most_one, as_role_under, missing, each_live, each_axiom, each_need, within, filled, has, readings, search_1, search_2, search_3, search_4, search_5, search_6, search_7, search_8, search_9, search_10, search_11, first_missing}
 use Rattle.calculus.specs.States.{State, filler_set, target}
 use Rattle.calculus.specs.declared.state.Context.{Context}
 use Rattle.calculus.specs.declared.state.Finding.TheVariants.{Held, Void, Needed}
 use Rattle.calculus.specs.declared.state.Need.{Need}
-use Rattle.session.specs.Scans.{Found, on_some, on_some_place, at_axiom, more_role, edge_applies, at_edge, pair_opens, pair_result, at_pair, with_others, by_axiom, by_need, by_edge, by_pair}
+use Rattle.session.specs.Scans.{Found, on_some, on_some_place, at_axiom, more_role, edge_applies, at_edge, pair_opens, pair_result, at_pair, with_others, by_axiom, by_need, by_edge, by_pair, by_rule}
 use Rattle.session.specs.Taking.{or_else}
 use Rattle.session.specs.declared.session.rules.AxiomRule.TheVariants.{Under as RuleUnder, Nothing as RuleNothing, Exists as RuleExists}
 use Rattle.session.specs.declared.session.rules.EdgeRule.TheVariants.{RoleUnder as EdgeRoleUnder, OnlyDown, OnlyUp}
 use Rattle.session.specs.declared.session.rules.NeedRule.TheVariants.{Target, VoidTarget}
 use Rattle.session.specs.declared.session.rules.PairRule.{PairRule}
 use Rattle.session.specs.declared.session.rules.PairRule.TheVariants.{Unite, BackTerms, BackRoles}
+use Rattle.session.specs.declared.session.rules.TheConstants.{RULES}
 
 first_same : {X Y : Type 0} (i : ℕ) (xs : List X) (f g : ℕ → X → Option Y) → ((k : ℕ) (x : X) → f k x ≡ g k x) → first i xs f ≡ first i xs g
 unfolding first else_try
@@ -218,3 +219,8 @@ module _ (s : State TermSet) where
   pub is_11 : search_11 words s ≡ by_pair BackRoles s
   unfolding search_11
   is_11 = live_same _ _ (λ i c. axiom_same _ _ (λ a x. at_11 i c x))
+
+  -- the rules in the order of the search
+  pub all_rules : first 0 RULES (λ k rule. by_rule rule s) ≡ first_missing words s
+  unfolding first_missing first
+  all_rules = simp (is_1, is_2, is_3, is_4, is_5, is_6, is_7, is_8, is_9, is_10, is_11)
