@@ -63,7 +63,7 @@ module _ {X Y : Type 0} (f : ℕ → X → Option Y) where
   pub first_end : (xs ys : List X) (n : ℕ) (o : Option Y) → o ≡ None → xs ≡ ys → NoneBefore f xs n → length xs ≤ n → o ≡ first 0 ys f
   first_end xs ys n o e same none h = e ∙ first_none xs ys n same none h
 
-pub when_passed : {Y : Type 0} (b : Bool) (f : Unit {0} → Option Y) → b ≡ true → when b f ≡ f tt
+when_passed : {Y : Type 0} (b : Bool) (f : Unit {0} → Option Y) → b ≡ true → when b f ≡ f tt
 unfolding when
 when_passed b f e = ap (λ (t : Bool). when t f) e
 
@@ -73,24 +73,6 @@ pub when_left : {X Y : Type 0} (p : ℕ → X → Bool) (g : ℕ → X → Optio
 when_left p g xs ys n x o same none below is pass e some =
     first_left (λ i x. when (p i x) (λ _. g i x)) xs ys n x o same none below is (e ∙ sym (when_passed (p n x) (λ _. g n x) pass)) some
 
-module _ {Y : Type 0} where
-  pub when_failed : (b : Bool) (f : Unit {0} → Option Y) → b ≡ false → when b f ≡ None
-  unfolding when
-  when_failed b f e = ap (λ (t : Bool). when t f) e
-
-  pub not_some : (o : Option Y) → is_some o ≡ false → o ≡ None
-  not_some None e = refl
-  not_some (Some y) e = absurd (true≢false e)
-
-  pub else_none : (o : Option Y) (f : Unit {0} → Option Y) → o ≡ None → else_try o f ≡ f tt
-  unfolding else_try
-  else_none o f e = ap (λ (z : Option Y). else_try z f) e
-
-  pub else_some : (o : Option Y) (f : Unit {0} → Option Y) (y : Y) → o ≡ Some y → else_try o f ≡ Some y
-  unfolding else_try
-  else_some o f y e = ap (λ (z : Option Y). else_try z f) e
-
-  pub else_last : (o : Option Y) → else_try o (λ _. None) ≡ o
-  unfolding else_try
-  else_last None = refl
-  else_last (Some y) = refl
+pub when_failed : {Y : Type 0} (b : Bool) (f : Unit {0} → Option Y) → b ≡ false → when b f ≡ None
+unfolding when
+when_failed b f e = ap (λ (t : Bool). when t f) e

@@ -78,6 +78,7 @@ impl<'a> Session<'a> {
     }
 
     // More steps than this are made in no run that leads to the session: all workings together stay within it.
+    #[tactic(auto, using(crate::proofs::RunLaws::in_run, crate::proofs::RunLaws::steps_bounded))]
     pub fn step_bound(&self) -> u64
         ensures value { result ≡ step_bound self.now.term_count self.now.role_count self.now.context_places self.now.need_places }
         ensures steps { (accepted : List Axiom) (steps : ℕ) → Run self.now accepted steps → steps ≤ result }
@@ -92,6 +93,7 @@ impl<'a> Session<'a> {
     }
 
     // Whether the session is at rest. In any run, nothing is missing then, and the table holds the accepted axioms.
+    #[tactic(auto, using(crate::proofs::RestLaws::run_rest, crate::proofs::RestLaws::run_axioms))]
     pub fn is_at_rest(&self) -> bool
         ensures value { result ≡ self.now.rest }
         ensures closed { (accepted : List Axiom) (steps : ℕ) → Run self.now accepted steps → result ≡ true → Closed words self.now }

@@ -89,6 +89,7 @@ impl Vocabulary {
     }
 
     // The set of a list of terms, if all of them are in use.
+    #[tactic(auto, using(std::proofs::lemmas::List::at_drop_more, std::proofs::lemmas::List::at_drop_all))]
     pub(crate) fn set_of(self, terms: &[Term]) -> Option<TermSet>
         ensures { result ≡ set_of self.terms terms.now }
     {

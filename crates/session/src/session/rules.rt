@@ -15,7 +15,8 @@ use numbers::term::Term;
 use numbers::term_set::TermSet;
 use shelf::form::{Axiom, Form};
 
-// The rules by what they look at: a context with an axiom, with a need, with both, or with an axiom and two needs.
+// The rules by what they look at: a context with an axiom, with a need, with both, or with an axiom and two needs. They are
+// enums and no impls of a trait, since `RULES` lists them in order, and a list has one type.
 #[derive(Clone, Copy)]
 pub(super) enum AxiomRule {
     // the term joins the held terms
@@ -63,8 +64,7 @@ pub(super) enum Rule {
     Pair(PairRule),
 }
 
-// All rules, in the order in which the search tries them. They are values of an enum and no impls of a trait, since a list
-// has one type.
+// All rules, in the order in which the search tries them.
 pub(super) const RULES: [Rule; 11] = [
     Rule::Need(NeedRule::Target),
     Rule::Axiom(AxiomRule::Under),
@@ -80,8 +80,8 @@ pub(super) const RULES: [Rule; 11] = [
 ];
 
 impl<'a> Session<'a> {
-    #[tactic(auto, using(crate::proofs::TableRows::found_row, crate::proofs::TableRows::found_none))]
     // The target of a need, with its place.
+    #[tactic(auto, using(crate::proofs::TableRows::found_row, crate::proofs::TableRows::found_none))]
     fn target(&self, need: &Need<TermSet>) -> Option<(u16, Context<TermSet>)>
         ensures { result ≡ target words self.now need.now }
     {
@@ -90,8 +90,8 @@ impl<'a> Session<'a> {
         Some((place as u16, contexts[place]))
     }
 
-    #[tactic(auto, using(crate::proofs::TableRows::found_is_any, crate::proofs::TableRows::any_same), unfolding(calculus::specs::Search::is_stored))]
     // Whether a result is stored.
+    #[tactic(auto, using(crate::proofs::TableRows::found_is_any, crate::proofs::TableRows::any_same), unfolding(calculus::specs::Search::is_stored))]
     fn stores(&self, finding: &Finding<TermSet>) -> bool
         ensures { result ≡ is_stored words self.now finding.now }
     {
@@ -106,8 +106,8 @@ impl<'a> Session<'a> {
         }
     }
 
-    #[tactic(auto, unfolding(calculus::specs::Search::when))]
     // The result, if it is missing.
+    #[tactic(auto, unfolding(calculus::specs::Search::when))]
     pub(super) fn missing(&self, finding: Finding<TermSet>) -> Option<Finding<TermSet>>
         ensures { result ≡ missing words self.now finding }
     {
@@ -160,7 +160,7 @@ impl<'a> Session<'a> {
         match rule {
             NeedRule::Target => self.missing(Finding::Fresh { set: need.terms }),
             NeedRule::VoidTarget => match self.target(need) {
-                Some(e) if e.1.void => self.missing(Finding::Void { context: place }),
+                Some((_, target)) if target.void => self.missing(Finding::Void { context: place }),
                 _ => None,
             },
         }
@@ -198,6 +198,7 @@ impl<'a> Session<'a> {
         ensures { result ≡ at_edge rule self.now place «axiom».now need.now }
     {
         match (rule, *axiom) {
+            // A match and no `or_else`: of a closure that calls twice the proof learns nothing.
             (EdgeRule::RoleUnder, Form::RoleUnder { lower, upper }) => match self.with_role(
                 need, lower, upper,
             ) {
@@ -214,7 +215,7 @@ impl<'a> Session<'a> {
                 }),
             (EdgeRule::OnlyUp, Form::Only { left, role, term })
                 if need.roles.contains(role.turned()) => match self.target(need) {
-                Some(e) if e.1.held.includes(left) => self.missing(Finding::Held {
+                Some((_, target)) if target.held.includes(left) => self.missing(Finding::Held {
                     context: place,
                     terms: TermSet::only(term),
                 }),
@@ -239,12 +240,14 @@ impl<'a> Session<'a> {
         };
         match rule {
             PairRule::Unite if need.roles.contains(role) => match self.target(need) {
-                Some(e) if e.1.held.includes(filler_set(filler)) => Some(place),
+                Some((_, target)) if target.held.includes(filler_set(filler)) => Some(place),
                 _ => None,
             },
             PairRule::BackTerms | PairRule::BackRoles if need.roles.contains(role.turned()) =>
                 match self.target(need) {
-                    Some(e) if e.1.held.includes(left) && !e.1.void => Some(e.0),
+                    Some((owner, target)) if target.held.includes(left) && !target.void => Some(
+                        owner,
+                    ),
                     _ => None,
                 },
             _ => None,
@@ -269,9 +272,9 @@ impl<'a> Session<'a> {
             return None;
         }
         match self.target(other) {
-            Some(g) if g.1.held.includes(filler_set(filler)) => self.missing(pair_result(
-                rule, place, need, other,
-            )),
+            Some((_, target)) if target.held.includes(filler_set(filler)) => self.missing(
+                pair_result(rule, place, need, other),
+            ),
             _ => None,
         }
     }
@@ -335,8 +338,5 @@ fn pair_result(
 fn filler_set(filler: Option<Term>) -> TermSet
     ensures { result ≡ filler_set words filler }
 {
-    match filler {
-        None => TermSet::empty(),
-        Some(term) => TermSet::only(term),
-    }
+    filler.map_or_else(TermSet::empty, TermSet::only)
 }

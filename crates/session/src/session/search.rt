@@ -10,8 +10,8 @@ use calculus::state::{Finding, Need};
 use numbers::term_set::TermSet;
 use shelf::form::Axiom;
 
+#[tactic(auto, using(crate::proofs::Firsts::none_start, crate::proofs::Firsts::none_next, crate::proofs::Firsts::first_none), unfolding(calculus::specs::Search::when, calculus::specs::Search::given))]
 impl<'a> Session<'a> {
-    #[tactic(auto, using(crate::proofs::Firsts::none_start, crate::proofs::Firsts::none_next, crate::proofs::Firsts::first_none), unfolding(calculus::specs::Search::when))]
     // The first missing result of a rule over contexts and axioms.
     fn by_axiom(&self, rule: AxiomRule) -> Option<Finding<TermSet>>
         ensures { result ≡ by_axiom rule self.now }
@@ -32,7 +32,6 @@ impl<'a> Session<'a> {
         found
     }
 
-    #[tactic(auto, using(crate::proofs::Firsts::none_start, crate::proofs::Firsts::none_next, crate::proofs::Firsts::first_none), unfolding(calculus::specs::Search::when))]
     // The first missing result of a rule over contexts and needs.
     fn by_need(&self, rule: NeedRule) -> Option<Finding<TermSet>>
         ensures { result ≡ by_need rule self.now }
@@ -56,7 +55,6 @@ impl<'a> Session<'a> {
         found
     }
 
-    #[tactic(auto, using(crate::proofs::Firsts::none_start, crate::proofs::Firsts::none_next, crate::proofs::Firsts::first_none), unfolding(calculus::specs::Search::when))]
     // The first missing result of a rule over contexts, axioms and needs.
     fn by_edge(&self, rule: EdgeRule) -> Option<Finding<TermSet>>
         ensures { result ≡ by_edge rule self.now }
@@ -85,7 +83,6 @@ impl<'a> Session<'a> {
         found
     }
 
-    #[tactic(auto, using(crate::proofs::Firsts::none_start, crate::proofs::Firsts::none_next, crate::proofs::Firsts::first_none), unfolding(calculus::specs::Search::when))]
     // The first missing result of a rule over contexts, axioms and two needs.
     fn by_pair(&self, rule: PairRule) -> Option<Finding<TermSet>>
         ensures { result ≡ by_pair rule self.now }
@@ -114,7 +111,6 @@ impl<'a> Session<'a> {
         found
     }
 
-    #[tactic(auto, using(crate::proofs::Firsts::none_start, crate::proofs::Firsts::none_next, crate::proofs::Firsts::first_none), unfolding(calculus::specs::Search::when, calculus::specs::Search::given))]
     // The first missing result of a rule at one need, over a second one.
     fn with_others(
         &self,
@@ -152,7 +148,6 @@ impl<'a> Session<'a> {
         }
     }
 
-    #[tactic(auto, using(crate::proofs::Firsts::none_start, crate::proofs::Firsts::none_next, crate::proofs::Firsts::first_none), unfolding(calculus::specs::Search::when))]
     // The first missing result of all rules: of the lowest rule, and then at the lowest places.
     pub(crate) fn first_missing(&self) -> Option<Finding<TermSet>>
         ensures { result ≡ first_missing words self.now }

@@ -90,6 +90,7 @@ impl<'a> Session<'a> {
     pub fn work(&mut self, budget: u16) -> (u16, Stop)
         ensures { Working self.old budget result.0 result.1 self.new }
     {
+        // The steps are counted by hand: whether something is missing is asked once more after the last step of the budget.
         let mut steps = 0;
         loop {
             let Some(found) = self.first_missing() else {
