@@ -66,8 +66,8 @@ impl<'a> Session<'a> {
             axioms: axioms.len(),
             contexts: contexts.len(),
             needs: needs.len(),
-        };
-        let sizes = sizes.allowed();
+        }
+        .allowed();
         Session {
             vocabulary: Vocabulary::new(sizes.terms, sizes.roles),
             axioms: Table::new(&mut axioms[..sizes.axioms]),
