@@ -4,9 +4,7 @@ ghost use Rattle.calculus.specs.Makes.{words};
 ghost use Rattle.calculus.specs.States.{same_set, need_covers};
 ghost use Rattle.std.specs.List.{list_any};
 
-use crate::table::Table;
 use calculus::state::{Context, Need};
-use numbers::role_set::RoleSet;
 use numbers::set::NumberSet;
 use numbers::term_set::TermSet;
 
