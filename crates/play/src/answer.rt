@@ -30,7 +30,7 @@ impl Call {
     // What the call answers. An opening is checked only: its session is open already.
     pub(crate) fn answer(&self, heap: Global, session: &mut Session) -> Result<Answer, AllocError> {
         match self {
-            Call::Open(opening) => Ok(done(opening.check())),
+            Call::Open(sizes) => Ok(done(sizes.check())),
             Call::Ask(asked) => asked.answer(heap, session),
             Call::Want(terms) => match session.want(terms.as_slice()) {
                 Ok(place) => Ok(Answer::Place(place)),

@@ -4,20 +4,9 @@ use calculus::state::{Context, Need};
 use numbers::role_set::RoleSet;
 use numbers::set::NumberSet;
 use numbers::term_set::TermSet;
-use session::refusal::Refusal;
-use session::session::check;
+use session::sizes::Sizes;
 use shelf::form::{Axiom, Form};
 use std::alloc::{AllocError, Global};
-
-// The numbers of terms and roles, and the lengths of the three tables.
-#[derive(Clone, Copy)]
-pub(crate) struct Opening {
-    pub(crate) terms: u8,
-    pub(crate) roles: u8,
-    axioms: usize,
-    contexts: usize,
-    needs: usize,
-}
 
 // The tables, which a session borrows.
 #[derive(Drop)]
@@ -27,59 +16,34 @@ pub(crate) struct Tables {
     pub(crate) needs: Vec<Need<TermSet>>,
 }
 
-impl Opening {
-    // An opening without terms, roles and places.
-    pub(crate) fn nothing() -> Opening {
-        Opening {
-            terms: 0,
-            roles: 0,
-            axioms: 0,
-            contexts: 0,
-            needs: 0,
-        }
-    }
+// The sizes that a line states: a word and five numbers.
+pub(crate) fn read(line: &str) -> Result<Sizes, Unread> {
+    let Some(numbers) = line.strip_prefix("open ") else {
+        return Err(Unread::NotUnderstood);
+    };
+    let (terms, rest) = parted(numbers, " ")?;
+    let (roles, lengths) = parted(rest, " ")?;
+    let (axioms, rest) = parted(lengths, " ")?;
+    let (contexts, needs) = parted(rest, " ")?;
+    Ok(Sizes {
+        terms: terms.parse::<u8>()?,
+        roles: roles.parse::<u8>()?,
+        axioms: axioms.parse::<usize>()?,
+        contexts: contexts.parse::<usize>()?,
+        needs: needs.parse::<usize>()?,
+    })
+}
 
-    // The opening that a line states: a word and five numbers.
-    pub(crate) fn read(line: &str) -> Result<Opening, Unread> {
-        let Some(numbers) = line.strip_prefix("open ") else {
-            return Err(Unread::NotUnderstood);
-        };
-        let (terms, rest) = parted(numbers, " ")?;
-        let (roles, lengths) = parted(rest, " ")?;
-        let (axioms, rest) = parted(lengths, " ")?;
-        let (contexts, needs) = parted(rest, " ")?;
-        Ok(Opening {
-            terms: terms.parse::<u8>()?,
-            roles: roles.parse::<u8>()?,
-            axioms: axioms.parse::<usize>()?,
-            contexts: contexts.parse::<usize>()?,
-            needs: needs.parse::<usize>()?,
-        })
-    }
-
-    // Whether a session can be opened so.
-    pub(crate) fn check(self) -> Result<(), Refusal> {
-        check(
-            self.terms,
-            self.roles,
-            self.axioms,
-            self.contexts,
-            self.needs,
-        )
-    }
-
+impl Tables {
     // Tables of these lengths, or empty ones where no session can be opened so. What their rows hold does not matter, since
     // a session fills them first.
-    pub(crate) fn tables(self, heap: Global) -> Result<Tables, AllocError> {
-        let Opening {
+    pub(crate) fn new(heap: Global, sizes: Sizes) -> Result<Tables, AllocError> {
+        let Sizes {
             axioms,
             contexts,
             needs,
             ..
-        } = match self.check() {
-            Ok(()) => self,
-            Err(_) => Opening::nothing(),
-        };
+        } = sizes.allowed();
         let terms = TermSet::empty();
         let axiom = Form::Nothing { left: terms };
         let context = Context {

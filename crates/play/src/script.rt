@@ -1,7 +1,8 @@
 // Reads a line of a script: a word, and what it is about.
-use crate::opening::Opening;
+use crate::opening;
 use crate::records::records;
 use numbers::term::Term;
+use session::sizes::Sizes;
 use shelf::form::Axiom;
 use std::alloc::{AllocError, AllocFailed, Global};
 use std::num::ParseIntError;
@@ -72,7 +73,7 @@ pub(crate) struct Asked {
 // A call: a session is opened, a shelf is asked, or the session is to store a list of terms or to work.
 #[derive(Drop)]
 pub(crate) enum Call {
-    Open(Opening),
+    Open(Sizes),
     Ask(Asked),
     Want(Vec<Term>),
     Work(u16),
@@ -83,7 +84,7 @@ impl Call {
     pub(crate) fn read(heap: Global, line: &str) -> Result<Call, Unread> {
         let (word, rest) = parted(line, " ")?;
         match word {
-            "open" => Ok(Call::Open(Opening::read(line)?)),
+            "open" => Ok(Call::Open(opening::read(line)?)),
             "want" => Ok(Call::Want(terms(heap, rest)?)),
             "work" => Ok(Call::Work(rest.parse::<u16>()?)),
             _ => Ok(Call::Ask(Asked::read(heap, word, rest)?)),

@@ -1,7 +1,9 @@
 // The lines of a script that are played with one session.
-use crate::opening::Opening;
+use crate::opening;
+use crate::opening::Tables;
 use crate::script::{Call, Unread};
 use session::session::Session;
+use session::sizes::Sizes;
 use std::alloc::{AllocError, Global};
 use std::io;
 use std::io::{BufRead, Lines};
@@ -9,7 +11,7 @@ use std::io::{BufRead, Lines};
 // What a session is opened with, and the line that says so; the first sitting has none.
 #[derive(Drop)]
 pub(crate) struct Sitting {
-    opening: Opening,
+    sizes: Sizes,
     line: String,
 }
 
@@ -17,7 +19,7 @@ impl Sitting {
     // The sitting before any line that opens a session.
     pub(crate) fn first(line: String) -> Sitting {
         Sitting {
-            opening: Opening::nothing(),
+            sizes: Sizes::NONE,
             line,
         }
     }
@@ -28,10 +30,10 @@ impl Sitting {
         rt: &HostRuntime,
         lines: &mut Lines<B, Global>,
     ) -> io::Result<Option<Sitting>> {
-        let mut tables = self.opening.tables(rt.alloc())?;
+        let mut tables = Tables::new(rt.alloc(), self.sizes)?;
         let mut session = Session::open(
-            self.opening.terms,
-            self.opening.roles,
+            self.sizes.terms,
+            self.sizes.roles,
             tables.axioms.as_mut_slice(),
             tables.contexts.as_mut_slice(),
             tables.needs.as_mut_slice(),
@@ -39,8 +41,8 @@ impl Sitting {
         play_line(rt, &mut session, self.line.as_str())?;
         for line in lines {
             let line = line?;
-            if let Ok(opening) = Opening::read(line.as_str()) {
-                return Ok(Some(Sitting { opening, line }));
+            if let Ok(sizes) = opening::read(line.as_str()) {
+                return Ok(Some(Sitting { sizes, line }));
             }
             play_line(rt, &mut session, line.as_str())?;
         }

@@ -9,18 +9,19 @@ use Rattle.shelf.specs.Axioms.{Axiom}
 use Rattle.shelf.specs.declared.form.Form.TheVariants.{Under, Nothing, Exists, Only, AtMostOne, RoleUnder}
 use Rattle.calculus.specs.Makes.{words, has_role, one_role}
 use Rattle.calculus.specs.Rules.{with_roles, with_terms, united}
-use Rattle.calculus.specs.Search.{else_try, first, when, given, as_under, as_nothing, as_exists, as_only, as_at_most_one, as_role_under, missing, each_live, each_axiom, each_need, within, filled, has, readings, search_1, search_2, search_3, search_4, search_5, search_6, search_7, search_8, search_9, search_10, search_11}
+use Rattle.calculus.specs.Search.{else_try, first, when, given, as_under, as_nothing, as_exists, as_only, as_at_most_one, as_role_under, missing, each_live, each_axiom, each_need, within, filled, has, readings, search_1, search_2, search_3, search_4, search_5, search_6, search_7, search_8, search_9, search_10, search_11, first_missing}
 use Rattle.calculus.specs.States.{State, filler_set, target}
 use Rattle.calculus.specs.declared.state.Context.{Context}
 use Rattle.calculus.specs.declared.state.Finding.TheVariants.{Held, Void, Needed}
 use Rattle.calculus.specs.declared.state.Need.{Need}
-use Rattle.session.specs.Scans.{Found, on_some, on_some_place, at_axiom, more_role, edge_applies, at_edge, pair_opens, pair_result, at_pair, with_others, by_axiom, by_need, by_edge, by_pair}
+use Rattle.session.specs.Scans.{Found, on_some, on_some_place, at_axiom, more_role, edge_applies, at_edge, pair_opens, pair_result, at_pair, with_others, by_axiom, by_need, by_edge, by_pair, by_rule}
 use Rattle.session.specs.Taking.{or_else}
 use Rattle.session.specs.declared.session.rules.AxiomRule.TheVariants.{Under as RuleUnder, Nothing as RuleNothing, Exists as RuleExists}
 use Rattle.session.specs.declared.session.rules.EdgeRule.TheVariants.{RoleUnder as EdgeRoleUnder, OnlyDown, OnlyUp}
 use Rattle.session.specs.declared.session.rules.NeedRule.TheVariants.{Target, VoidTarget}
 use Rattle.session.specs.declared.session.rules.PairRule.{PairRule}
 use Rattle.session.specs.declared.session.rules.PairRule.TheVariants.{Unite, BackTerms, BackRoles}
+use Rattle.session.specs.declared.session.rules.TheConstants.{RULES}
 
 first_same : {X Y : Type 0} (i : ℕ) (xs : List X) (f g : ℕ → X → Option Y) → ((k : ℕ) (x : X) → f k x ≡ g k x) → first i xs f ≡ first i xs g
 unfolding first else_try
@@ -83,11 +84,11 @@ module _ (s : State TermSet) where
   need_same : (i : ℕ) (f g : ℕ → Need TermSet → Found) → ((j : ℕ) (d : Need TermSet) → f j d ≡ g j d) → each_need words s i f ≡ each_need words s i g
   need_same i f g h = first_same 0 s.needs (λ j d. when (eqb d.context i) (λ _. f j d)) (λ j d. when (eqb d.context i) (λ _. g j d)) (λ j d. when_same (eqb d.context i) (f j d) (g j d) (h j d))
 
-  pub is_1 : search_1 words s ≡ by_need Target s
+  is_1 : search_1 words s ≡ by_need Target s
   unfolding search_1
   is_1 = refl
 
-  pub is_6 : search_6 words s ≡ by_need VoidTarget s
+  is_6 : search_6 words s ≡ by_need VoidTarget s
   unfolding search_6
   is_6 = live_same _ _ (λ i c. need_same i _ _ (λ j d. on_target (target words s d) _ _ (λ e. when-cond e.1.void _ _ refl)))
 
@@ -100,7 +101,7 @@ module _ (s : State TermSet) where
   at_2 i c (AtMostOne l r f) = refl
   at_2 i c (RoleUnder r q) = refl
 
-  pub is_2 : search_2 words s ≡ by_axiom RuleUnder s
+  is_2 : search_2 words s ≡ by_axiom RuleUnder s
   unfolding search_2
   is_2 = live_same _ _ (λ i c. axiom_same _ _ (λ a x. at_2 i c x))
 
@@ -113,7 +114,7 @@ module _ (s : State TermSet) where
   at_3 i c (AtMostOne l r f) = refl
   at_3 i c (RoleUnder r q) = refl
 
-  pub is_3 : search_3 words s ≡ by_axiom RuleNothing s
+  is_3 : search_3 words s ≡ by_axiom RuleNothing s
   unfolding search_3
   is_3 = live_same _ _ (λ i c. axiom_same _ _ (λ a x. at_3 i c x))
 
@@ -126,7 +127,7 @@ module _ (s : State TermSet) where
   at_4 i c (AtMostOne l r f) = refl
   at_4 i c (RoleUnder r q) = refl
 
-  pub is_4 : search_4 words s ≡ by_axiom RuleExists s
+  is_4 : search_4 words s ≡ by_axiom RuleExists s
   unfolding search_4
   is_4 = live_same _ _ (λ i c. axiom_same _ _ (λ a x. at_4 i c x))
 
@@ -145,7 +146,7 @@ module _ (s : State TermSet) where
   at_5 i c (AtMostOne l r f) = refl
   at_5 i c (RoleUnder r q) = need_same i _ _ (λ j d. read_both d r q)
 
-  pub is_5 : search_5 words s ≡ by_edge EdgeRoleUnder s
+  is_5 : search_5 words s ≡ by_edge EdgeRoleUnder s
   unfolding search_5
   is_5 = live_same _ _ (λ i c. axiom_same _ _ (λ a x. at_5 i c x))
 
@@ -158,7 +159,7 @@ module _ (s : State TermSet) where
   at_7 i c (AtMostOne l r f) = refl
   at_7 i c (RoleUnder r q) = refl
 
-  pub is_7 : search_7 words s ≡ by_edge OnlyDown s
+  is_7 : search_7 words s ≡ by_edge OnlyDown s
   unfolding search_7
   is_7 = live_same _ _ (λ i c. axiom_same _ _ (λ a x. at_7 i c x))
 
@@ -171,7 +172,7 @@ module _ (s : State TermSet) where
   at_8 i c (AtMostOne l r f) = refl
   at_8 i c (RoleUnder r q) = refl
 
-  pub is_8 : search_8 words s ≡ by_edge OnlyUp s
+  is_8 : search_8 words s ≡ by_edge OnlyUp s
   unfolding search_8
   is_8 = live_same _ _ (λ i c. axiom_same _ _ (λ a x. at_8 i c x))
 
@@ -189,7 +190,7 @@ module _ (s : State TermSet) where
   at_9 i c (AtMostOne l r f) = when_same (term_covers c.held l) _ _ (need_same i _ _ (λ j d. unite_same (has_role words d.roles r) (target words s d) (λ e. term_covers e.held (filler_set words f)) i _ (λ k. each_need words s k (λ n o. at_pair Unite s i (AtMostOne l r f) d o)) (need_same i _ _ (λ k o. others Unite i l r f d o))))
   at_9 i c (RoleUnder r q) = refl
 
-  pub is_9 : search_9 words s ≡ by_pair Unite s
+  is_9 : search_9 words s ≡ by_pair Unite s
   unfolding search_9
   is_9 = live_same _ _ (λ i c. axiom_same _ _ (λ a x. at_9 i c x))
 
@@ -202,7 +203,7 @@ module _ (s : State TermSet) where
   at_10 i c (AtMostOne l r f) = when_same (term_covers c.held (filler_set words f)) _ _ (need_same i _ _ (λ j d. back_same (has_role words d.roles (turn r)) (target words s d) (λ e. term_covers e.held l) (λ k. each_need words s k (λ n o. when (has words s o r) (λ _. given (target words s o) (λ g. when (filled words s f g.1) (λ _. missing words s (pair_result BackTerms i d o)))))) (λ k. each_need words s k (λ n o. at_pair BackTerms s i (AtMostOne l r f) d o)) (λ k. need_same k _ _ (λ n o. others BackTerms i l r f d o))))
   at_10 i c (RoleUnder r q) = refl
 
-  pub is_10 : search_10 words s ≡ by_pair BackTerms s
+  is_10 : search_10 words s ≡ by_pair BackTerms s
   unfolding search_10
   is_10 = live_same _ _ (λ i c. axiom_same _ _ (λ a x. at_10 i c x))
 
@@ -215,6 +216,11 @@ module _ (s : State TermSet) where
   at_11 i c (AtMostOne l r f) = when_same (term_covers c.held (filler_set words f)) _ _ (need_same i _ _ (λ j d. back_same (has_role words d.roles (turn r)) (target words s d) (λ e. term_covers e.held l) (λ k. each_need words s k (λ n o. when (has words s o r) (λ _. given (target words s o) (λ g. when (filled words s f g.1) (λ _. missing words s (pair_result BackRoles i d o)))))) (λ k. each_need words s k (λ n o. at_pair BackRoles s i (AtMostOne l r f) d o)) (λ k. need_same k _ _ (λ n o. others BackRoles i l r f d o))))
   at_11 i c (RoleUnder r q) = refl
 
-  pub is_11 : search_11 words s ≡ by_pair BackRoles s
+  is_11 : search_11 words s ≡ by_pair BackRoles s
   unfolding search_11
   is_11 = live_same _ _ (λ i c. axiom_same _ _ (λ a x. at_11 i c x))
+
+  -- the rules in the order of the search
+  pub all_rules : first 0 RULES (λ k rule. by_rule rule s) ≡ first_missing words s
+  unfolding first_missing first
+  all_rules = simp (is_1, is_2, is_3, is_4, is_5, is_6, is_7, is_8, is_9, is_10, is_11)

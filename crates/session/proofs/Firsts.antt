@@ -1,5 +1,6 @@
 -- What a nested search has found once nothing stands before a place. Assumes nothing.
-use Rattle.std.proofs.Common.{◌≡◌, ℕ, zero, suc, ◌+◌, ◌<◌, ◌≤◌, Bool, true, false, List, [], ◌∷◌, length, is_some, Some, None, Option, sym, refl, ap, ◌∙◌, subst, ⊎_elim, zero-add, arith}
+use Rattle.std.proofs.Common.{◌≡◌, ℕ, zero, suc, ◌+◌, ◌<◌, ◌≤◌, Bool, true, false, List, [], ◌∷◌, length, get_or, is_some, Some, None, Option, sym, refl, ap, ◌∙◌, subst, ⊎_elim, zero-add, arith}
+use Rattle.std.proofs.lemmas.Option.{slice_get_read}
 use Rattle.std.proofs.lemmas.Bool.{cases_lt, true≢false}
 use Rattle.calculus.proofs.Places.{none_some, some_same, at_below}
 use Rattle.calculus.specs.Search.{else_try, first, when}
@@ -11,20 +12,27 @@ here_is i = omega arith
 next_is : (i n : ℕ) → i + suc n ≡ suc i + n
 next_is i n = omega arith
 
+-- f gives nothing at the places before n
+pub record NoneBefore {X Y : Type 0} (f : ℕ → X → Option Y) (xs : List X) (n : ℕ) : Type 0 where
+  pub before : (k : ℕ) (x : X) → k < n → At xs k x → f k x ≡ None
+
 module _ {X Y : Type 0} (f : ℕ → X → Option Y) where
-  -- f gives nothing at the places before n
-  abbrev pub NoneBefore : List X → ℕ → Type 0
-  NoneBefore xs n = (k : ℕ) (x : X) → k < n → At xs k x → f k x ≡ None
+  pub none_start : (xs : List X) → NoneBefore f xs 0
+  none_start xs = record { before = λ k x h a. absurd (omega arith) }
 
-  pub none_start : (xs : List X) → NoneBefore xs 0
-  none_start xs k x h a = absurd (omega arith)
+  -- the item at a place of a loop
+  read_at : (xs : List X) (n : ℕ) (x : X) → n < length xs → x ≡ get_or xs n x → At xs n x
+  read_at xs n x h is = slice_get_read xs (length xs) n x refl h is
 
-  pub none_more : (xs : List X) (n : ℕ) (x : X) → NoneBefore xs n → At xs n x → f n x ≡ None → NoneBefore xs (n + 1)
-  none_more xs n x before a e k z h b = ⊎_elim (λ (l : k < n). before k z l b)
-      (λ (l : n ≤ k).
-      let same : n ≡ k = omega arith in
-      subst (λ (i : ℕ). f i z ≡ None) same (subst (λ (w : X). f n w ≡ None) (some_same x z (sym a ∙ subst (λ (i : ℕ). At xs i z) (sym same) b)) e))
-      (cases_lt k n)
+  pub none_next : (xs : List X) (n : ℕ) (x : X) → NoneBefore f xs n → n < length xs → x ≡ get_or xs n x → f n x ≡ None → NoneBefore f xs (n + 1)
+  none_next xs n x none below is e = record { before = go }
+    where
+      go : (k : ℕ) (z : X) → k < n + 1 → At xs k z → f k z ≡ None
+      go k z h b = ⊎_elim (λ (l : k < n). none.before k z l b)
+          (λ (l : n ≤ k).
+          let same : n ≡ k = omega arith in
+          subst (λ (i : ℕ). f i z ≡ None) same (subst (λ (w : X). f n w ≡ None) (some_same x z (sym (read_at xs n x below is) ∙ subst (λ (i : ℕ). At xs i z) (sym same) b)) e))
+          (cases_lt k n)
 
   found_from : (i : ℕ) (xs : List X) (n : ℕ) (x : X) (y : Y) → ((k : ℕ) (z : X) → k < n → At xs k z → f (i + k) z ≡ None) → At xs n x → f (i + n) x ≡ Some y → first i xs f ≡ Some y
   unfolding first else_try
@@ -43,38 +51,28 @@ module _ {X Y : Type 0} (f : ℕ → X → Option Y) where
       ∙ none_from (suc i) zs (λ k w b. ap (λ (j : ℕ). f j w) (sym (next_is i k)) ∙ before (suc k) w b)
 
   -- the search is left with what f gives at the first place where it gives something
-  pub first_found : (xs : List X) (n : ℕ) (x : X) (y : Y) → NoneBefore xs n → At xs n x → f n x ≡ Some y → first 0 xs f ≡ Some y
-  first_found xs n x y before a e = found_from 0 xs n x y (λ k z l b. ap (λ (j : ℕ). f j z) (zero-add k) ∙ before k z l b) a (ap (λ (j : ℕ). f j x) (zero-add n) ∙ e)
+  pub first_left : (xs ys : List X) (n : ℕ) (x : X) (o : Option Y) → xs ≡ ys → NoneBefore f xs n → n < length xs → x ≡ get_or xs n x → o ≡ f n x → true ≡ is_some o → o ≡ first 0 ys f
+  first_left xs ys n x None same none below is e some = absurd (true≢false some)
+  first_left xs ys n x (Some y) same none below is e some = sym (subst (λ (zs : List X). first 0 zs f ≡ Some y) same
+      (found_from 0 xs n x y (λ k z l b. ap (λ (j : ℕ). f j z) (zero-add k) ∙ none.before k z l b) (read_at xs n x below is) (ap (λ (j : ℕ). f j x) (zero-add n) ∙ sym e)))
 
-  pub first_left : (xs : List X) (n : ℕ) (x : X) (o : Option Y) → NoneBefore xs n → At xs n x → f n x ≡ o → is_some o ≡ true → first 0 xs f ≡ o
-  first_left xs n x None before a e h = absurd (true≢false (sym h))
-  first_left xs n x (Some y) before a e h = first_found xs n x y before a e
+  pub first_none : (xs ys : List X) (n : ℕ) → xs ≡ ys → NoneBefore f xs n → length xs ≤ n → None ≡ first 0 ys f
+  first_none xs ys n same none h = sym (subst (λ (zs : List X). first 0 zs f ≡ None) same
+      (none_from 0 xs (λ k z b. ap (λ (j : ℕ). f j z) (zero-add k) ∙ none.before k z (let below = at_below xs k z b in omega arith) b)))
 
-  pub first_none : (xs : List X) (n : ℕ) → NoneBefore xs n → length xs ≤ n → first 0 xs f ≡ None
-  first_none xs n before h = none_from 0 xs (λ k z b. ap (λ (j : ℕ). f j z) (zero-add k) ∙ before k z (let below = at_below xs k z b in omega arith) b)
+  pub first_end : (xs ys : List X) (n : ℕ) (o : Option Y) → o ≡ None → xs ≡ ys → NoneBefore f xs n → length xs ≤ n → o ≡ first 0 ys f
+  first_end xs ys n o e same none h = e ∙ first_none xs ys n same none h
 
-module _ {Y : Type 0} where
-  pub when_passed : (b : Bool) (f : Unit {0} → Option Y) → b ≡ true → when b f ≡ f tt
-  unfolding when
-  when_passed b f e = ap (λ (t : Bool). when t f) e
+when_passed : {Y : Type 0} (b : Bool) (f : Unit {0} → Option Y) → b ≡ true → when b f ≡ f tt
+unfolding when
+when_passed b f e = ap (λ (t : Bool). when t f) e
 
-  pub when_failed : (b : Bool) (f : Unit {0} → Option Y) → b ≡ false → when b f ≡ None
-  unfolding when
-  when_failed b f e = ap (λ (t : Bool). when t f) e
+-- the same, where f gives something only where a test is passed
+pub when_left : {X Y : Type 0} (p : ℕ → X → Bool) (g : ℕ → X → Option Y) (xs ys : List X) (n : ℕ) (x : X) (o : Option Y) → xs ≡ ys → NoneBefore (λ i x. when (p i x) (λ _. g i x)) xs n
+    → n < length xs → x ≡ get_or xs n x → p n x ≡ true → o ≡ g n x → true ≡ is_some o → o ≡ first 0 ys (λ i x. when (p i x) (λ _. g i x))
+when_left p g xs ys n x o same none below is pass e some =
+    first_left (λ i x. when (p i x) (λ _. g i x)) xs ys n x o same none below is (e ∙ sym (when_passed (p n x) (λ _. g n x) pass)) some
 
-  pub not_some : (o : Option Y) → is_some o ≡ false → o ≡ None
-  not_some None e = refl
-  not_some (Some y) e = absurd (true≢false e)
-
-  pub else_none : (o : Option Y) (f : Unit {0} → Option Y) → o ≡ None → else_try o f ≡ f tt
-  unfolding else_try
-  else_none o f e = ap (λ (z : Option Y). else_try z f) e
-
-  pub else_some : (o : Option Y) (f : Unit {0} → Option Y) (y : Y) → o ≡ Some y → else_try o f ≡ Some y
-  unfolding else_try
-  else_some o f y e = ap (λ (z : Option Y). else_try z f) e
-
-  pub else_last : (o : Option Y) → else_try o (λ _. None) ≡ o
-  unfolding else_try
-  else_last None = refl
-  else_last (Some y) = refl
+pub when_failed : {Y : Type 0} (b : Bool) (f : Unit {0} → Option Y) → b ≡ false → when b f ≡ None
+unfolding when
+when_failed b f e = ap (λ (t : Bool). when t f) e

@@ -1,5 +1,5 @@
 -- Every state of a run is reached, and the potential has grown by at least the steps made. Assumes nothing.
-use Rattle.std.proofs.Common.{◌≡◌, ℕ, suc, ◌+◌, ◌≤◌, Bool, true, false, cond, ◌&&◌, ltb, leb, List, [], ◌∷◌, ◌++◌, length, is_err, Some, None, Ok, Err, Option, Result, sym, refl, ap, subst, arith, length-set}
+use Rattle.std.proofs.Common.{◌≡◌, ℕ, suc, ◌+◌, ◌≤◌, Bool, true, false, cond, ◌&&◌, ltb, leb, List, [], ◌∷◌, ◌++◌, length, is_err, Some, None, Ok, Err, Option, Result, position, sym, refl, ap, subst, arith, length-set}
 use Rattle.std.proofs.lemmas.List.{append_assoc, append-nil}
 use Rattle.std.proofs.lemmas.Bool.{and_parts, leb-true, ltb-true}
 use Rattle.numbers.specs.Bits.{possible}
@@ -15,12 +15,11 @@ use Rattle.calculus.proofs.Proved.{some_lowest}
 use Rattle.calculus.specs.Makes.{words}
 use Rattle.calculus.specs.Potentials.{potential, step_bound}
 use Rattle.calculus.specs.Reached.{Reached, Regular, InUse, Room, empty}
-use Rattle.calculus.specs.States.{State, At, found, put, fresh, holding, voided, need_covers, added, with_axioms, with_rest}
+use Rattle.calculus.specs.States.{State, At, put, fresh, holding, voided, need_covers, added, with_axioms, with_rest}
 use Rattle.calculus.specs.declared.state.Finding.{Finding}
 use Rattle.calculus.specs.declared.state.Finding.TheVariants.{Fresh, Held, Void, Needed}
 use Rattle.session.specs.Opening.{opened}
 use Rattle.session.specs.Runs.{Call, Answer, Made, Run, steps_of}
-use Rattle.session.specs.Tables.{place_of}
 use Rattle.session.specs.Taking.{terms_to, entries_refusal, taking, take_state, axioms_of, rest_after}
 use Rattle.session.specs.Wanting.{set_of, stored_at, want_stored, want_set_state, want_state}
 use Rattle.session.specs.Working.{blocked, no_place, Steps, Ended, Working}
@@ -100,9 +99,9 @@ room-added s (Fresh t) regular h = (go (ltb (length s.contexts) s.context_places
     go false e h = absurd (none_some NoContextPlace (sym h))
 room-added s (Held i t) regular h = (omega (arith, length-change s.contexts i (holding words t), regular.room.1), regular.room.2)
 room-added s (Void i) regular h = (omega (arith, length-change s.contexts i (voided words), regular.room.1), regular.room.2)
-room-added s (Needed d) regular h = (regular.room.1, go (place_of (found (need_covers words d) 0 s.needs)) refl (ltb (length s.needs) s.need_places) refl h)
+room-added s (Needed d) regular h = (regular.room.1, go (position (need_covers words d) s.needs) refl (ltb (length s.needs) s.need_places) refl h)
   where
-    go : (o : Option ℕ) → place_of (found (need_covers words d) 0 s.needs) ≡ o → (b : Bool) → ltb (length s.needs) s.need_places ≡ b → cond b None (no_place o) ≡ None
+    go : (o : Option ℕ) → position (need_covers words d) s.needs ≡ o → (b : Bool) → ltb (length s.needs) s.need_places ≡ b → cond b None (no_place o) ≡ None
         → length (put (need_covers words d) d s.needs) ≤ s.need_places
     go (Some j) e b f h = omega (arith, ap length (put_at (need_covers words d) d s.needs j (sym e)), length-set s.needs j d, regular.room.2)
     go None e true f h =

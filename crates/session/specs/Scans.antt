@@ -23,6 +23,8 @@ use Rattle.session.specs.declared.session.rules.NeedRule.{NeedRule}
 use Rattle.session.specs.declared.session.rules.NeedRule.TheVariants.{Target, VoidTarget}
 use Rattle.session.specs.declared.session.rules.PairRule.{PairRule}
 use Rattle.session.specs.declared.session.rules.PairRule.TheVariants.{Unite, BackTerms, BackRoles}
+use Rattle.session.specs.declared.session.rules.Rule.{Rule}
+use Rattle.session.specs.declared.session.rules.Rule.TheVariants.{Axiom as AxiomKind, Need as NeedKind, Edge as EdgeKind, Pair as PairKind}
 use Rattle.session.specs.Taking.{or_else}
 
 abbrev pub Found : Type 0
@@ -183,3 +185,9 @@ with_others rule s i x d = given (onward rule s i x d) (λ k. each_need words s 
 
 abbrev pub by_pair : PairRule → State TermSet → Found
 by_pair rule s = each_live words s (λ i c. each_axiom words s (λ a x. when (pair_opens rule c x) (λ _. each_need words s i (λ j d. with_others rule s i x d))))
+
+abbrev pub by_rule : Rule → State TermSet → Found
+by_rule (AxiomKind rule) s = by_axiom rule s
+by_rule (NeedKind rule) s = by_need rule s
+by_rule (EdgeKind rule) s = by_edge rule s
+by_rule (PairKind rule) s = by_pair rule s

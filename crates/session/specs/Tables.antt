@@ -1,14 +1,12 @@
--- What fills a table, and how many places it has. Assumes nothing.
-use Rattle.std.specs.Prelude.{ℕ, min, List, length, take, Some, None, Option}
-use Rattle.session.specs.declared.table.Table.{Table}
+-- What a contract sees of a table. Assumes nothing.
+use Rattle.std.specs.Prelude.{ℕ, List, refl}
+use Rattle.std.specs.Coded.{Coded, code_by, coded×, coded_ℕ, coded_list}
 
-abbrev pub rows : {T : Type 0} → Table T → List T
-rows t = take t.filled t.places.now
+-- the rows that fill a table in order, and how many it has room for
+pub record Rows (T : Type 0) : Type 0 where
+  pub rows : List T
+  pub room : ℕ
 
-abbrev pub room : {T : Type 0} → Table T → ℕ
-room t = min t.room (length t.places.now)
-
--- the place of what was found
-abbrev pub place_of : {T : Type 0} → Option (ℕ × T) → Option ℕ
-place_of None = None
-place_of (Some x) = Some x.0
+-- a table is stored as the pair of the two
+abbrev pub rows_code : {T : Type 0} → Coded T → Coded (Rows T)
+rows_code {T} code = code_by (List T × ℕ) (coded× (coded_list code) coded_ℕ) (λ t. (t.rows, t.room)) (λ p. record { rows = p.0; room = p.1 }) (λ _. refl)

@@ -1,13 +1,12 @@
 -- Wanting a list of terms. Assumes nothing.
-use Rattle.std.specs.Prelude.{ℕ, ◌+◌, false, cond, List, [], ◌∷◌, length, Some, None, Ok, Err, Option, Result, nat_lt}
+use Rattle.std.specs.Prelude.{ℕ, ◌+◌, false, cond, List, [], ◌∷◌, length, Some, None, Ok, Err, Option, Result, nat_lt, position}
 use Rattle.numbers.specs.Bits.{possible}
 use Rattle.numbers.specs.TermSets.{term_none, term_single, term_joined}
 use Rattle.numbers.specs.declared.term.Term.{Term}
 use Rattle.numbers.specs.declared.term_set.TermSet.{TermSet}
 use Rattle.calculus.specs.Makes.{words}
-use Rattle.calculus.specs.States.{State, found, same_set, added, with_rest}
+use Rattle.calculus.specs.States.{State, same_set, added, with_rest}
 use Rattle.calculus.specs.declared.state.Finding.TheVariants.{Fresh}
-use Rattle.session.specs.Tables.{place_of}
 use Rattle.session.specs.declared.refusal.Refusal.{Refusal}
 use Rattle.session.specs.declared.refusal.Refusal.TheVariants.{Term as NoTerm, NoContextPlace}
 
@@ -22,7 +21,7 @@ set_of n ts = gathered n term_none ts
 
 -- the place of the context that has the set
 abbrev pub stored_at : State TermSet → TermSet → Option ℕ
-stored_at s t = place_of (found (λ c. same_set words c.set t) 0 s.contexts)
+stored_at s t = position (λ c. same_set words c.set t) s.contexts
 
 -- the answer and the state after wanting a set: its place if it is stored, the next place if one is free
 abbrev pub want_place : State TermSet → TermSet → Option ℕ → Result ℕ Refusal

@@ -1,12 +1,11 @@
 -- Working: adding the first missing result, again and again. Assumes nothing.
-use Rattle.std.specs.Prelude.{◌≡◌, ℕ, suc, ◌<◌, ◌≤◌, true, cond, length, Some, None, Option, nat_lt}
+use Rattle.std.specs.Prelude.{◌≡◌, ℕ, suc, ◌<◌, ◌≤◌, true, cond, length, Some, None, Option, nat_lt, position}
 use Rattle.numbers.specs.declared.term_set.TermSet.{TermSet}
 use Rattle.calculus.specs.Makes.{words}
 use Rattle.calculus.specs.Search.{first_missing}
-use Rattle.calculus.specs.States.{State, found, need_covers, added, with_rest}
+use Rattle.calculus.specs.States.{State, need_covers, added, with_rest}
 use Rattle.calculus.specs.declared.state.Finding.{Finding}
 use Rattle.calculus.specs.declared.state.Finding.TheVariants.{Fresh, Held, Void, Needed}
-use Rattle.session.specs.Tables.{place_of}
 use Rattle.session.specs.declared.session.working.Stop.{Stop}
 use Rattle.session.specs.declared.session.working.Stop.TheVariants.{AtRest, Spent, NoContextPlace, NoNeedPlace}
 
@@ -26,7 +25,7 @@ abbrev pub blocked : State TermSet → Finding TermSet → Option Stop
 blocked s (Fresh t) = cond (nat_lt (length s.contexts) s.context_places) None (Some NoContextPlace)
 blocked s (Held i t) = None
 blocked s (Void i) = None
-blocked s (Needed d) = cond (nat_lt (length s.needs) s.need_places) None (no_place (place_of (found (need_covers words d) 0 s.needs)))
+blocked s (Needed d) = cond (nat_lt (length s.needs) s.need_places) None (no_place (position (need_covers words d) s.needs))
 
 -- n steps lead from one state to another: each adds the first missing result, which has its place
 pub data Steps (s : State TermSet) : ℕ → State TermSet → Type 0 where

@@ -5,4 +5,6 @@ mod lookup;
 mod packet;
 pub mod refusal;
 pub mod session;
+pub mod sizes;
 mod table;
+mod vocabulary;

@@ -1,16 +1,15 @@
 // What is looked up in the tables: a context by its set, and needs by what they cover.
-ghost use Rattle.std.specs.Prelude.{◌≡◌};
+ghost use Rattle.std.specs.Prelude.{◌≡◌, ◌<◌, length, IfSome, position};
 ghost use Rattle.calculus.specs.Makes.{words};
 ghost use Rattle.calculus.specs.States.{same_set, need_covers};
+ghost use Rattle.std.specs.List.{list_any};
 
-use crate::table::Wanted;
 use calculus::state::{Context, Need};
-use numbers::role_set::RoleSet;
 use numbers::set::NumberSet;
 use numbers::term_set::TermSet;
 
 // Whether one need covers another.
-pub(crate) fn covers(need: &Need<TermSet>, other: &Need<TermSet>) -> bool
+fn covers(need: &Need<TermSet>, other: &Need<TermSet>) -> bool
     ensures { result ≡ need_covers words need.now other.now }
 {
     need.context == other.context
@@ -18,44 +17,27 @@ pub(crate) fn covers(need: &Need<TermSet>, other: &Need<TermSet>) -> bool
         && need.terms.includes(other.terms)
 }
 
-// The context that has the set.
-#[derive(Clone, Copy)]
-pub(crate) struct WithSet {
-    pub set: TermSet,
+// The place, counted from 0, of the first context that has the set.
+pub(crate) fn with_set(contexts: &[Context<TermSet>], set: TermSet) -> Option<usize>
+    ensures value { result ≡ position (λ c. same_set words c.set set) contexts.now }
+    ensures below { IfSome result (λ i. i < length contexts.now) }
+{
+    contexts
+        .iter()
+        .position(|row| row.set.includes(set) && set.includes(row.set))
 }
 
-impl Wanted<Context<TermSet>> for WithSet {
-    ghost wants = { λ w c. same_set words c.set w.set };
-
-    fn fits(&self, row: &Context<TermSet>) -> bool {
-        row.set.includes(self.set) && self.set.includes(row.set)
-    }
+// The place, counted from 0, of the first need that the given one covers.
+pub(crate) fn covered_by(needs: &[Need<TermSet>], need: &Need<TermSet>) -> Option<usize>
+    ensures value { result ≡ position (need_covers words need.now) needs.now }
+    ensures below { IfSome result (λ i. i < length needs.now) }
+{
+    needs.iter().position(|row| covers(need, row))
 }
 
-// A need that the given one covers.
-#[derive(Clone, Copy)]
-pub(crate) struct CoveredBy {
-    pub need: Need<TermSet>,
-}
-
-impl Wanted<Need<TermSet>> for CoveredBy {
-    ghost wants = { λ w d. need_covers words w.need d };
-
-    fn fits(&self, row: &Need<TermSet>) -> bool {
-        covers(&self.need, row)
-    }
-}
-
-// A need that covers the given one.
-#[derive(Clone, Copy)]
-pub(crate) struct Covering {
-    pub need: Need<TermSet>,
-}
-
-impl Wanted<Need<TermSet>> for Covering {
-    ghost wants = { λ w d. need_covers words d w.need };
-
-    fn fits(&self, row: &Need<TermSet>) -> bool {
-        covers(row, &self.need)
-    }
+// Whether some need covers the given one.
+pub(crate) fn is_covered(needs: &[Need<TermSet>], need: &Need<TermSet>) -> bool
+    ensures { result ≡ list_any (λ d. need_covers words d need.now) needs.now }
+{
+    needs.iter().any(|row| covers(row, need))
 }

@@ -23,7 +23,7 @@ pub enum Refusal {
 }
 
 impl Refusal {
-    // The number under which the refusal is reported.
+    // The number under which the refusal is reported. A match, since a cast takes no variants with fields.
     pub fn number(self) -> u8
         ensures { result ≡ refusal_number self }
     {

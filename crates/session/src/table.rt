@@ -1,24 +1,95 @@
-// A table over a lent slice of records. Its places fill in order.
-ghost use Rattle.std.specs.Prelude.{◌≡◌, ◌<◌, min, Bool, ltb, [], ◌∷◌, ◌++◌, length, IfSome, if◌then◌else◌, Some, nat_lt, slice_set};
+// A table over a lent slice of rows. Its places fill in order.
+ghost use Rattle.std.specs.Prelude.{◌≡◌, ◌<◌, ◌≤◌, [], ◌∷◌, ◌++◌, length, nat_lt, slice_set};
 ghost use Rattle.std.specs.List.{slice_get};
-ghost use Rattle.calculus.specs.States.{found};
-ghost use Rattle.session.specs.Tables.{rows, room, place_of};
 
-// The first `room` places of the slice may be used, and the first `filled` of them are.
+use std::marker::Model;
+
+// The first `filled` places of the slice are filled. A contract sees the rows that fill the table and how many it has room
+// for.
 #[derive(Drop)]
 pub(crate) struct Table<'a, T> {
     places: &'a mut [T],
-    room: u16,
     filled: u16,
 }
 
-// What a search looks for.
-pub(crate) trait Wanted<T> {
-    // which rows fit
-    ghost wants: { Self → T → Bool };
+impl<'a, T> Model for Table<'a, T> {
+    ghost use Rattle.std.specs.Prelude.{◌≤◌, length, take};
+    ghost use Rattle.session.specs.Tables.{Rows, rows_code};
 
-    fn fits(&self, row: &T) -> bool
-        ensures { result ≡ wants self.now row.now };
+    ghost Value = { Rows T };
+
+    ghost coded = { rows_code T.code };
+
+    ghost view = { λ t. record { rows = take t.filled t.places.now; room = length t.places.now } };
+
+    ghost invariant = { λ t. (t.filled ≤ length t.places.now) × (length t.places.now ≤ 65535) };
+}
+
+impl<'a, T: Copy> Table<'a, T> {
+    // A table of which no place is filled.
+    pub(crate) fn new(places: &'a mut [T]) -> Table<'a, T>
+        requires { length places.old ≤ 65535 }
+        ensures rows { result.rows ≡ [] }
+        ensures room { result.room ≡ length places.old }
+    {
+        Table { places, filled: 0 }
+    }
+
+    // What fills the table.
+    pub(crate) fn all(&self) -> &[T]
+        ensures rows { result.now ≡ self.now.rows }
+        ensures few { length result.now ≤ 65535 }
+    {
+        &self.places[..self.filled as usize]
+    }
+
+    // How many places are filled.
+    pub(crate) fn len(&self) -> u16
+        ensures { result ≡ length self.now.rows }
+    {
+        self.filled
+    }
+
+    // How many places there are.
+    pub(crate) fn room(&self) -> u16
+        ensures { result ≡ self.now.room }
+    {
+        self.places.len() as u16
+    }
+
+    // Whether a place is free.
+    pub(crate) fn is_free(&self) -> bool
+        ensures { result ≡ nat_lt (length self.now.rows) self.now.room }
+    {
+        self.len() < self.room()
+    }
+
+    // The row at a place counted from 0, if it is filled.
+    pub(crate) fn get(&self, i: u16) -> Option<T>
+        ensures { result ≡ slice_get self.now.rows i }
+    {
+        self.all().get(i as usize).copied()
+    }
+
+    // Fills the next place.
+    pub(crate) fn append(&mut self, row: T)
+        requires { length self.old.rows < self.old.room }
+        ensures rows { self.new.rows ≡ self.old.rows ++ (row ∷ []) }
+        ensures room { self.new.room ≡ self.old.room }
+    {
+        put(&mut *self.places, self.filled as usize, row);
+        self.filled += 1;
+    }
+
+    // Puts another row at a filled place counted from 0.
+    #[tactic(auto, using(crate::proofs::TableRows::take_set_in))]
+    pub(crate) fn set(&mut self, i: u16, row: T)
+        requires { i < length self.old.rows }
+        ensures rows { self.new.rows ≡ slice_set self.old.rows i row }
+        ensures room { self.new.room ≡ self.old.room }
+    {
+        put(&mut *self.places, i as usize, row);
+    }
 }
 
 // Puts a row at a place of a slice.
@@ -27,118 +98,4 @@ fn put<T: Copy>(places: &mut [T], i: usize, row: T)
     ensures { places.new ≡ slice_set places.old i row }
 {
     places[i] = row;
-}
-
-impl<'a, T: Copy> Table<'a, T> {
-    // A table of which no place is filled.
-    pub(crate) fn new(places: &'a mut [T], usable: u16) -> Table<'a, T>
-        ensures rows { rows result ≡ [] }
-        ensures room { room result ≡ min usable (length places.old) }
-    {
-        Table {
-            places,
-            room: usable,
-            filled: 0,
-        }
-    }
-
-    // What fills the table.
-    pub(crate) fn all(&self) -> &[T]
-        ensures { result.now ≡ rows self.now }
-    {
-        let places = &*self.places;
-        let filled = self.filled as usize;
-        if filled < places.len() {
-            &places[0..filled]
-        } else {
-            places
-        }
-    }
-
-    // Whether a place is free.
-    pub(crate) fn is_free(&self) -> bool
-        ensures { result ≡ nat_lt (length (rows self.now)) (room self.now) }
-    {
-        let places = &*self.places;
-        self.filled < self.room && (self.filled as usize) < places.len()
-    }
-
-    // Fills the next place, if one is free.
-    pub(crate) fn append(&mut self, row: T)
-        ensures rows { rows self.new ≡ (if ltb (length (rows self.old)) (room self.old) then rows self.old ++ (row ∷ []) else rows self.old) }
-        ensures room { room self.new ≡ room self.old }
-    {
-        if self.is_free() {
-            let filled = self.filled;
-            put(&mut *self.places, filled as usize, row);
-            self.filled = filled + 1;
-        }
-    }
-
-    // How many places are filled.
-    pub(crate) fn len(&self) -> u16
-        ensures { result ≡ length (rows self.now) }
-    {
-        let places = &*self.places;
-        let filled = self.filled;
-        if (filled as usize) < places.len() {
-            filled
-        } else {
-            places.len() as u16
-        }
-    }
-
-    // How many places there are.
-    pub(crate) fn room(&self) -> u16
-        ensures { result ≡ room self.now }
-    {
-        let places = &*self.places;
-        let usable = self.room;
-        if (usable as usize) < places.len() {
-            usable
-        } else {
-            places.len() as u16
-        }
-    }
-
-    // The row at a filled place counted from 0.
-    pub(crate) fn row(&self, i: u16) -> T
-        requires { i < length (rows self.now) }
-        ensures { slice_get (rows self.now) i ≡ Some result }
-    {
-        self.all()[i as usize]
-    }
-
-    // The row at a place counted from 0, if it is filled.
-    pub(crate) fn get(&self, i: u16) -> Option<T>
-        ensures { result ≡ slice_get (rows self.now) i }
-    {
-        if i < self.len() {
-            Some(self.row(i))
-        } else {
-            None
-        }
-    }
-
-    // Puts another row at a filled place counted from 0.
-    pub(crate) fn set(&mut self, i: u16, row: T)
-        requires { i < length (rows self.old) }
-        ensures rows { rows self.new ≡ slice_set (rows self.old) i row }
-        ensures room { room self.new ≡ room self.old }
-    {
-        put(&mut *self.places, i as usize, row);
-    }
-
-    // The first place, counted from 0, whose row fits.
-    pub(crate) fn first<W: Wanted<T>>(&self, wanted: &W) -> Option<u16>
-        ensures value { result ≡ place_of (found (W.Wanted.wants wanted.now) 0 (rows self.now)) }
-        ensures small { IfSome result (λ i. i < 65535) }
-    {
-        for i in 0..self.len() {
-            if wanted.fits(&self.row(i)) {
-                return Some(i);
-            }
-        }
-        None
-    }
 }

@@ -3,11 +3,10 @@ ghost use Rattle.std.specs.Prelude.{◌≡◌};
 ghost use Rattle.calculus.specs.Makes.{words};
 ghost use Rattle.calculus.specs.Search.{is_stored, missing};
 ghost use Rattle.calculus.specs.States.{filler_set, target};
-ghost use Rattle.session.specs.Models.{model};
 ghost use Rattle.session.specs.Scans.{at_axiom, at_need, more_role, at_edge, edge_applies, pair_opens, onward, pair_result, at_pair};
 
 use super::Session;
-use crate::lookup::{Covering, WithSet};
+use crate::lookup::{is_covered, with_set};
 use calculus::state::{Context, Finding, Need};
 use numbers::role::DirectedRole;
 use numbers::role_set::RoleSet;
@@ -16,7 +15,8 @@ use numbers::term::Term;
 use numbers::term_set::TermSet;
 use shelf::form::{Axiom, Form};
 
-// The rules by what they look at: a context with an axiom, with a need, with both, or with an axiom and two needs.
+// The rules by what they look at: a context with an axiom, with a need, with both, or with an axiom and two needs. They are
+// enums and no impls of a trait, since `RULES` lists them in order, and a list has one type.
 #[derive(Clone, Copy)]
 pub(super) enum AxiomRule {
     // the term joins the held terms
@@ -55,38 +55,61 @@ pub(super) enum PairRule {
     BackRoles,
 }
 
+// A rule, by what it looks at.
+#[derive(Clone, Copy)]
+pub(super) enum Rule {
+    Axiom(AxiomRule),
+    Need(NeedRule),
+    Edge(EdgeRule),
+    Pair(PairRule),
+}
+
+// All rules, in the order in which the search tries them.
+pub(super) const RULES: [Rule; 11] = [
+    Rule::Need(NeedRule::Target),
+    Rule::Axiom(AxiomRule::Under),
+    Rule::Axiom(AxiomRule::Nothing),
+    Rule::Axiom(AxiomRule::Exists),
+    Rule::Edge(EdgeRule::RoleUnder),
+    Rule::Need(NeedRule::VoidTarget),
+    Rule::Edge(EdgeRule::OnlyDown),
+    Rule::Edge(EdgeRule::OnlyUp),
+    Rule::Pair(PairRule::Unite),
+    Rule::Pair(PairRule::BackTerms),
+    Rule::Pair(PairRule::BackRoles),
+];
+
 impl<'a> Session<'a> {
     // The target of a need, with its place.
+    #[tactic(auto, using(crate::proofs::TableRows::found_row, crate::proofs::TableRows::found_none))]
     fn target(&self, need: &Need<TermSet>) -> Option<(u16, Context<TermSet>)>
-        ensures { result ≡ target words (model self.now) need.now }
+        ensures { result ≡ target words self.now need.now }
     {
-        match self.contexts.first(&WithSet { set: need.terms }) {
-            Some(place) => Some((place, self.contexts.row(place))),
-            None => None,
-        }
+        let contexts = self.contexts.all();
+        let place = with_set(contexts, need.terms)?;
+        Some((place as u16, contexts[place]))
     }
 
     // Whether a result is stored.
+    #[tactic(auto, using(crate::proofs::TableRows::found_is_any, crate::proofs::TableRows::any_same), unfolding(calculus::specs::Search::is_stored))]
     fn stores(&self, finding: &Finding<TermSet>) -> bool
-        ensures { result ≡ is_stored words (model self.now) finding.now }
+        ensures { result ≡ is_stored words self.now finding.now }
     {
         match *finding {
-            Finding::Fresh { set } => self.contexts.first(&WithSet { set }).is_some(),
-            Finding::Held { context, terms } => match self.contexts.get(context) {
-                Some(row) => row.held.includes(terms),
-                None => false,
-            },
-            Finding::Void { context } => match self.contexts.get(context) {
-                Some(row) => row.void,
-                None => false,
-            },
-            Finding::Needed { need } => self.needs.first(&Covering { need }).is_some(),
+            Finding::Fresh { set } => with_set(self.contexts.all(), set).is_some(),
+            Finding::Held { context, terms } => self
+                .contexts
+                .get(context)
+                .is_some_and(|row| row.held.includes(terms)),
+            Finding::Void { context } => self.contexts.get(context).is_some_and(|row| row.void),
+            Finding::Needed { need } => is_covered(self.needs.all(), &need),
         }
     }
 
     // The result, if it is missing.
+    #[tactic(auto, unfolding(calculus::specs::Search::when))]
     pub(super) fn missing(&self, finding: Finding<TermSet>) -> Option<Finding<TermSet>>
-        ensures { result ≡ missing words (model self.now) finding }
+        ensures { result ≡ missing words self.now finding }
     {
         if self.stores(&finding) {
             None
@@ -103,7 +126,7 @@ impl<'a> Session<'a> {
         context: &Context<TermSet>,
         axiom: &Axiom,
     ) -> Option<Finding<TermSet>>
-        ensures { result ≡ at_axiom rule (model self.now) place context.now «axiom».now }
+        ensures { result ≡ at_axiom rule self.now place context.now «axiom».now }
     {
         match (rule, *axiom) {
             (AxiomRule::Under, Form::Under { left, term }) if context.held.includes(left) =>
@@ -132,12 +155,12 @@ impl<'a> Session<'a> {
         place: u16,
         need: &Need<TermSet>,
     ) -> Option<Finding<TermSet>>
-        ensures { result ≡ at_need rule (model self.now) place need.now }
+        ensures { result ≡ at_need rule self.now place need.now }
     {
         match rule {
             NeedRule::Target => self.missing(Finding::Fresh { set: need.terms }),
             NeedRule::VoidTarget => match self.target(need) {
-                Some(e) if e.1.void => self.missing(Finding::Void { context: place }),
+                Some((_, target)) if target.void => self.missing(Finding::Void { context: place }),
                 _ => None,
             },
         }
@@ -150,7 +173,7 @@ impl<'a> Session<'a> {
         role: DirectedRole,
         more: DirectedRole,
     ) -> Option<Finding<TermSet>>
-        ensures { result ≡ more_role (model self.now) need.now role more }
+        ensures { result ≡ more_role self.now need.now role more }
     {
         if !need.roles.contains(role) {
             return None;
@@ -172,9 +195,10 @@ impl<'a> Session<'a> {
         axiom: &Axiom,
         need: &Need<TermSet>,
     ) -> Option<Finding<TermSet>>
-        ensures { result ≡ at_edge rule (model self.now) place «axiom».now need.now }
+        ensures { result ≡ at_edge rule self.now place «axiom».now need.now }
     {
         match (rule, *axiom) {
+            // A match and no `or_else`: of a closure that calls twice the proof learns nothing.
             (EdgeRule::RoleUnder, Form::RoleUnder { lower, upper }) => match self.with_role(
                 need, lower, upper,
             ) {
@@ -191,7 +215,7 @@ impl<'a> Session<'a> {
                 }),
             (EdgeRule::OnlyUp, Form::Only { left, role, term })
                 if need.roles.contains(role.turned()) => match self.target(need) {
-                Some(e) if e.1.held.includes(left) => self.missing(Finding::Held {
+                Some((_, target)) if target.held.includes(left) => self.missing(Finding::Held {
                     context: place,
                     terms: TermSet::only(term),
                 }),
@@ -209,19 +233,21 @@ impl<'a> Session<'a> {
         axiom: &Axiom,
         need: &Need<TermSet>,
     ) -> Option<u16>
-        ensures { result ≡ onward rule (model self.now) place «axiom».now need.now }
+        ensures { result ≡ onward rule self.now place «axiom».now need.now }
     {
         let Form::AtMostOne { left, role, filler } = *axiom else {
             return None;
         };
         match rule {
             PairRule::Unite if need.roles.contains(role) => match self.target(need) {
-                Some(e) if e.1.held.includes(filler_set(filler)) => Some(place),
+                Some((_, target)) if target.held.includes(filler_set(filler)) => Some(place),
                 _ => None,
             },
             PairRule::BackTerms | PairRule::BackRoles if need.roles.contains(role.turned()) =>
                 match self.target(need) {
-                    Some(e) if e.1.held.includes(left) && !e.1.void => Some(e.0),
+                    Some((owner, target)) if target.held.includes(left) && !target.void => Some(
+                        owner,
+                    ),
                     _ => None,
                 },
             _ => None,
@@ -237,7 +263,7 @@ impl<'a> Session<'a> {
         need: &Need<TermSet>,
         other: &Need<TermSet>,
     ) -> Option<Finding<TermSet>>
-        ensures { result ≡ at_pair rule (model self.now) place «axiom».now need.now other.now }
+        ensures { result ≡ at_pair rule self.now place «axiom».now need.now other.now }
     {
         let Form::AtMostOne { role, filler, .. } = *axiom else {
             return None;
@@ -246,9 +272,9 @@ impl<'a> Session<'a> {
             return None;
         }
         match self.target(other) {
-            Some(g) if g.1.held.includes(filler_set(filler)) => self.missing(pair_result(
-                rule, place, need, other,
-            )),
+            Some((_, target)) if target.held.includes(filler_set(filler)) => self.missing(
+                pair_result(rule, place, need, other),
+            ),
             _ => None,
         }
     }
@@ -312,8 +338,5 @@ fn pair_result(
 fn filler_set(filler: Option<Term>) -> TermSet
     ensures { result ≡ filler_set words filler }
 {
-    match filler {
-        None => TermSet::empty(),
-        Some(term) => TermSet::only(term),
-    }
+    filler.map_or_else(TermSet::empty, TermSet::only)
 }

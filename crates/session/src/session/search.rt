@@ -2,28 +2,28 @@
 ghost use Rattle.std.specs.Prelude.{◌≡◌};
 ghost use Rattle.calculus.specs.Makes.{words};
 ghost use Rattle.calculus.specs.Search.{first_missing};
-ghost use Rattle.session.specs.Models.{model};
-ghost use Rattle.session.specs.Scans.{by_axiom, by_need, by_edge, with_others, by_pair};
+ghost use Rattle.session.specs.Scans.{by_axiom, by_need, by_edge, with_others, by_pair, by_rule};
 
 use super::Session;
-use super::rules::{AxiomRule, EdgeRule, NeedRule, PairRule, applies, opens};
+use super::rules::{AxiomRule, EdgeRule, NeedRule, PairRule, RULES, Rule, applies, opens};
 use calculus::state::{Finding, Need};
 use numbers::term_set::TermSet;
 use shelf::form::Axiom;
 
+#[tactic(auto, using(crate::proofs::Firsts::none_start, crate::proofs::Firsts::none_next, crate::proofs::Firsts::first_none), unfolding(calculus::specs::Search::when, calculus::specs::Search::given))]
 impl<'a> Session<'a> {
     // The first missing result of a rule over contexts and axioms.
     fn by_axiom(&self, rule: AxiomRule) -> Option<Finding<TermSet>>
-        ensures { result ≡ by_axiom rule (model self.now) }
+        ensures { result ≡ by_axiom rule self.now }
     {
         let mut found = None;
-        'search: for i in 0..self.contexts.len() {
-            let context = self.contexts.row(i);
+        'search: for (i, context) in self.contexts.all().iter().enumerate() {
             if context.void {
                 continue;
             }
-            for a in 0..self.axioms.len() {
-                found = self.at_axiom(rule, i, &context, &self.axioms.row(a));
+            let place = i as u16;
+            for axiom in self.axioms.all() {
+                found = self.at_axiom(rule, place, context, axiom);
                 if found.is_some() {
                     break 'search;
                 }
@@ -34,20 +34,19 @@ impl<'a> Session<'a> {
 
     // The first missing result of a rule over contexts and needs.
     fn by_need(&self, rule: NeedRule) -> Option<Finding<TermSet>>
-        ensures { result ≡ by_need rule (model self.now) }
+        ensures { result ≡ by_need rule self.now }
     {
         let mut found = None;
-        'search: for i in 0..self.contexts.len() {
-            let context = self.contexts.row(i);
+        'search: for (i, context) in self.contexts.all().iter().enumerate() {
             if context.void {
                 continue;
             }
-            for j in 0..self.needs.len() {
-                let need = self.needs.row(j);
-                if need.context != i {
+            let place = i as u16;
+            for need in self.needs.all() {
+                if need.context != place {
                     continue;
                 }
-                found = self.at_need(rule, i, &need);
+                found = self.at_need(rule, place, need);
                 if found.is_some() {
                     break 'search;
                 }
@@ -58,25 +57,23 @@ impl<'a> Session<'a> {
 
     // The first missing result of a rule over contexts, axioms and needs.
     fn by_edge(&self, rule: EdgeRule) -> Option<Finding<TermSet>>
-        ensures { result ≡ by_edge rule (model self.now) }
+        ensures { result ≡ by_edge rule self.now }
     {
         let mut found = None;
-        'search: for i in 0..self.contexts.len() {
-            let context = self.contexts.row(i);
+        'search: for (i, context) in self.contexts.all().iter().enumerate() {
             if context.void {
                 continue;
             }
-            for a in 0..self.axioms.len() {
-                let axiom = self.axioms.row(a);
-                if !applies(rule, &context, &axiom) {
+            let place = i as u16;
+            for axiom in self.axioms.all() {
+                if !applies(rule, context, axiom) {
                     continue;
                 }
-                for j in 0..self.needs.len() {
-                    let need = self.needs.row(j);
-                    if need.context != i {
+                for need in self.needs.all() {
+                    if need.context != place {
                         continue;
                     }
-                    found = self.at_edge(rule, i, &axiom, &need);
+                    found = self.at_edge(rule, place, axiom, need);
                     if found.is_some() {
                         break 'search;
                     }
@@ -88,25 +85,23 @@ impl<'a> Session<'a> {
 
     // The first missing result of a rule over contexts, axioms and two needs.
     fn by_pair(&self, rule: PairRule) -> Option<Finding<TermSet>>
-        ensures { result ≡ by_pair rule (model self.now) }
+        ensures { result ≡ by_pair rule self.now }
     {
         let mut found = None;
-        'search: for i in 0..self.contexts.len() {
-            let context = self.contexts.row(i);
+        'search: for (i, context) in self.contexts.all().iter().enumerate() {
             if context.void {
                 continue;
             }
-            for a in 0..self.axioms.len() {
-                let axiom = self.axioms.row(a);
-                if !opens(rule, &context, &axiom) {
+            let place = i as u16;
+            for axiom in self.axioms.all() {
+                if !opens(rule, context, axiom) {
                     continue;
                 }
-                for j in 0..self.needs.len() {
-                    let need = self.needs.row(j);
-                    if need.context != i {
+                for need in self.needs.all() {
+                    if need.context != place {
                         continue;
                     }
-                    found = self.with_others(rule, i, &axiom, &need);
+                    found = self.with_others(rule, place, axiom, need);
                     if found.is_some() {
                         break 'search;
                     }
@@ -124,17 +119,16 @@ impl<'a> Session<'a> {
         axiom: &Axiom,
         need: &Need<TermSet>,
     ) -> Option<Finding<TermSet>>
-        ensures { result ≡ with_others rule (model self.now) place «axiom».now need.now }
+        ensures { result ≡ with_others rule self.now place «axiom».now need.now }
     {
         let Some(owner) = self.onward(rule, place, axiom, need) else {
             return None;
         };
-        for n in 0..self.needs.len() {
-            let other = self.needs.row(n);
+        for other in self.needs.all() {
             if other.context != owner {
                 continue;
             }
-            let found = self.at_pair(rule, place, axiom, need, &other);
+            let found = self.at_pair(rule, place, axiom, need, other);
             if found.is_some() {
                 return found;
             }
@@ -142,40 +136,28 @@ impl<'a> Session<'a> {
         None
     }
 
+    // The first missing result of a rule.
+    fn by_rule(&self, rule: Rule) -> Option<Finding<TermSet>>
+        ensures { result ≡ by_rule rule self.now }
+    {
+        match rule {
+            Rule::Axiom(rule) => self.by_axiom(rule),
+            Rule::Need(rule) => self.by_need(rule),
+            Rule::Edge(rule) => self.by_edge(rule),
+            Rule::Pair(rule) => self.by_pair(rule),
+        }
+    }
+
     // The first missing result of all rules: of the lowest rule, and then at the lowest places.
     pub(crate) fn first_missing(&self) -> Option<Finding<TermSet>>
-        ensures { result ≡ first_missing words (model self.now) }
+        ensures { result ≡ first_missing words self.now }
     {
-        if let Some(found) = self.by_need(NeedRule::Target) {
-            return Some(found);
+        for rule in &RULES {
+            let found = self.by_rule(*rule);
+            if found.is_some() {
+                return found;
+            }
         }
-        if let Some(found) = self.by_axiom(AxiomRule::Under) {
-            return Some(found);
-        }
-        if let Some(found) = self.by_axiom(AxiomRule::Nothing) {
-            return Some(found);
-        }
-        if let Some(found) = self.by_axiom(AxiomRule::Exists) {
-            return Some(found);
-        }
-        if let Some(found) = self.by_edge(EdgeRule::RoleUnder) {
-            return Some(found);
-        }
-        if let Some(found) = self.by_need(NeedRule::VoidTarget) {
-            return Some(found);
-        }
-        if let Some(found) = self.by_edge(EdgeRule::OnlyDown) {
-            return Some(found);
-        }
-        if let Some(found) = self.by_edge(EdgeRule::OnlyUp) {
-            return Some(found);
-        }
-        if let Some(found) = self.by_pair(PairRule::Unite) {
-            return Some(found);
-        }
-        if let Some(found) = self.by_pair(PairRule::BackTerms) {
-            return Some(found);
-        }
-        self.by_pair(PairRule::BackRoles)
+        None
     }
 }

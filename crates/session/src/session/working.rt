@@ -3,11 +3,10 @@ ghost use Rattle.std.specs.Prelude.{◌≡◌, None};
 ghost use Rattle.calculus.specs.Makes.{words};
 ghost use Rattle.calculus.specs.States.{added};
 ghost use Rattle.calculus.specs.declared.state.Finding.TheVariants.{Needed};
-ghost use Rattle.session.specs.Models.{model};
 ghost use Rattle.session.specs.Working.{stop_number, blocked, Working};
 
 use super::Session;
-use crate::lookup::CoveredBy;
+use crate::lookup::covered_by;
 use calculus::state::{Context, Finding, Need};
 use numbers::set::NumberSet;
 use numbers::term_set::TermSet;
@@ -16,13 +15,13 @@ use numbers::term_set::TermSet;
 #[derive(Clone, Copy, PartialEq, Eq, Debug)]
 pub enum Stop {
     // nothing is missing
-    AtRest,
+    AtRest = 0,
     // the budget is used
-    Spent,
+    Spent = 1,
     // the first missing result is a context, and no place is free
-    NoContextPlace,
+    NoContextPlace = 2,
     // the first missing result is a need that takes the next place, and none is free
-    NoNeedPlace,
+    NoNeedPlace = 3,
 }
 
 impl Stop {
@@ -30,48 +29,39 @@ impl Stop {
     pub fn number(self) -> u8
         ensures { result ≡ stop_number self }
     {
-        match self {
-            Stop::AtRest => 0,
-            Stop::Spent => 1,
-            Stop::NoContextPlace => 2,
-            Stop::NoNeedPlace => 3,
-        }
+        self as u8
     }
 }
 
 impl<'a> Session<'a> {
     // Why a result has no place, if so.
     fn blocked(&self, finding: &Finding<TermSet>) -> Option<Stop>
-        ensures { result ≡ blocked (model self.now) finding.now }
+        ensures { result ≡ blocked self.now finding.now }
     {
         match *finding {
             Finding::Fresh { .. } if !self.contexts.is_free() => Some(Stop::NoContextPlace),
-            Finding::Needed { need } if !self.needs.is_free() => match self
-                .needs
-                .first(&CoveredBy { need })
-            {
-                Some(_) => None,
-                None => Some(Stop::NoNeedPlace),
-            },
+            Finding::Needed { need } if !self.needs.is_free() => covered_by(self.needs.all(), &need)
+                .is_none()
+                .then_some(Stop::NoNeedPlace),
             _ => None,
         }
     }
 
     // Adds a need: in the place of the first one that it covers, or in the next place.
     fn add_need(&mut self, need: Need<TermSet>)
-        requires { blocked (model self.old) (Needed need) ≡ None }
-        ensures { model self.new ≡ added words (model self.old) (Needed need) }
+        requires { blocked self.old (Needed need) ≡ None }
+        ensures { self.new ≡ added words self.old (Needed need) }
     {
-        match self.needs.first(&CoveredBy { need }) {
-            Some(j) => self.needs.set(j, need),
+        match covered_by(self.needs.all(), &need) {
+            Some(j) => self.needs.set(j as u16, need),
             None => self.needs.append(need),
         }
     }
 
     // Adds a result that has its place.
     fn add(&mut self, finding: Finding<TermSet>)
-        requires { blocked (model self.old) finding ≡ None }
-        ensures { model self.new ≡ added words (model self.old) finding }
+        requires { blocked self.old finding ≡ None }
+        ensures { self.new ≡ added words self.old finding }
     {
         match finding {
             Finding::Fresh { set } => self.contexts.append(Context {
@@ -82,26 +72,12 @@ impl<'a> Session<'a> {
             Finding::Held { context, terms } => {
                 if let Some(row) = self.contexts.get(context) {
                     let held = row.held.union(terms);
-                    self.contexts.set(
-                        context,
-                        Context {
-                            set: row.set,
-                            held,
-                            void: row.void,
-                        },
-                    );
+                    self.contexts.set(context, Context { held, ..row });
                 }
             }
             Finding::Void { context } => {
                 if let Some(row) = self.contexts.get(context) {
-                    self.contexts.set(
-                        context,
-                        Context {
-                            set: row.set,
-                            held: row.held,
-                            void: true,
-                        },
-                    );
+                    self.contexts.set(context, Context { void: true, ..row });
                 }
             }
             Finding::Needed { need } => self.add_need(need),
@@ -112,8 +88,9 @@ impl<'a> Session<'a> {
     // steps that it made and why it stopped.
     #[tactic(auto, using(crate::proofs::WorkSteps::stepped))]
     pub fn work(&mut self, budget: u16) -> (u16, Stop)
-        ensures { Working (model self.old) budget result.0 result.1 (model self.new) }
+        ensures { Working self.old budget result.0 result.1 self.new }
     {
+        // The steps are counted by hand: whether something is missing is asked once more after the last step of the budget.
         let mut steps = 0;
         loop {
             let Some(found) = self.first_missing() else {

@@ -6,4 +6,4 @@ use Rattle.session.proofs.packet.refusal.Given as goal
 abbrev pub invariant-loop-i : goal.invariant-loop-i
 invariant-loop-i g l =
     let es = g.S.Shelf.list l.shelf in
-    entries_refusal (terms_to l.n) l.n l.q (l.i + 1) (drop l.i es) ≡ entries_refusal (terms_to l.n) l.n l.q 1 es
+    entries_refusal (terms_to l.vocabulary.terms) l.vocabulary.terms l.vocabulary.roles (l.i + 1) (drop l.i es) ≡ entries_refusal (terms_to l.vocabulary.terms) l.vocabulary.terms l.vocabulary.roles 1 es

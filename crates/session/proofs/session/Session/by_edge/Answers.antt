@@ -1,88 +1,33 @@
-use Rattle.std.proofs.Common.{not, eqb, sym, ap, ◌∙◌, arith}
+use Rattle.std.proofs.Common.{not, eqb, sym, ap, arith, rules}
 use Rattle.std.proofs.lemmas.Bool.{eq-eqb, ne_eqb}
-use Rattle.session.specs.Models.{model}
-use Rattle.session.specs.Scans.{edge_applies}
-use Rattle.session.proofs.Firsts.{none_more, first_left, first_none, when_passed, when_failed, not_some}
+use Rattle.calculus.specs.Search.{first}
+use Rattle.session.specs.Scans.{edge_applies, at_edge}
+use Rattle.session.proofs.Firsts.{none_next, first_end, when_left, when_failed}
 use Rattle.session.proofs.ScanSteps.{edge_context, edge_axiom, edge_need}
 use Rattle.session.proofs.session.Session.by_edge.Goals as goal
 
-pub search-preserved-then-context : goal.search-preserved-then-context
-search-preserved-then-context c =
-    let s = model c.args.self.now in
-    let e = c.row-context.result in (
-      c.search.invariant.0,
-      none_more (edge_context s c.args.rule) s.contexts c.search.i e c.search.invariant.1 c.row-context.ensures
-          (when_failed (not e.void) _ (ap not c.if-context.true)),
-    )
-
-pub loop-a-preserved-then-not-applies : goal.loop-a-preserved-then-not-applies
-loop-a-preserved-then-not-applies c =
-    let s = model c.args.self.now in
-    let e = c.row-context.result in
-    let x = c.row-axiom.result in (
-      c.loop-a.invariant.0,
-      none_more (edge_axiom s c.args.rule c.search.i e) s.axioms c.loop-a.a x c.loop-a.invariant.1 c.row-axiom.ensures
-          (when_failed (edge_applies c.args.rule e x) _ (sym c.if-not-applies.ensures)),
-    )
-
-pub loop-j-preserved-then-need-i : goal.loop-j-preserved-then-need-i
-loop-j-preserved-then-need-i c =
-    let s = model c.args.self.now in
-    let x = c.row-axiom.result in
-    let d = c.row-need.result in (
-      c.loop-j.invariant.0,
-      none_more (edge_need s c.args.rule c.search.i x) s.needs c.loop-j.j d c.loop-j.invariant.1 c.row-need.ensures
-          (when_failed (eqb d.context c.search.i) _ (ne_eqb d.context c.search.i c.if-need-i.true)),
-    )
-
-pub loop-j-preserved : goal.loop-j-preserved
-loop-j-preserved c =
-    let s = model c.args.self.now in
-    let x = c.row-axiom.result in
-    let d = c.row-need.result in
-    let none = not_some c.at_edge-found.result (sym c.if-is_some.ensures) in (
-      none,
-      none_more (edge_need s c.args.rule c.search.i x) s.needs c.loop-j.j d c.loop-j.invariant.1 c.row-need.ensures
-          (when_passed (eqb d.context c.search.i) _ (eq-eqb d.context c.search.i c.if-need-i.false) ∙ sym c.at_edge-found.ensures ∙ none),
-    )
-
-pub loop-a-preserved : goal.loop-a-preserved
-loop-a-preserved c =
-    let s = model c.args.self.now in
-    let e = c.row-context.result in
-    let x = c.row-axiom.result in (
-      c.loop-j.invariant.0,
-      none_more (edge_axiom s c.args.rule c.search.i e) s.axioms c.loop-a.a x c.loop-a.invariant.1 c.row-axiom.ensures
-          (when_passed (edge_applies c.args.rule e x) _ (sym c.if-not-applies.ensures)
-          ∙ first_none (edge_need s c.args.rule c.search.i x) s.needs c.loop-j.j c.loop-j.invariant.1 (omega (arith, c.loop-j-test.false, c.len-j-end.ensures))),
-    )
-
-pub search-preserved : goal.search-preserved
-search-preserved c =
-    let s = model c.args.self.now in
-    let e = c.row-context.result in (
-      c.loop-a.invariant.0,
-      none_more (edge_context s c.args.rule) s.contexts c.search.i e c.search.invariant.1 c.row-context.ensures
-          (when_passed (not e.void) _ (ap not c.if-context.false)
-          ∙ first_none (edge_axiom s c.args.rule c.search.i e) s.axioms c.loop-a.a c.loop-a.invariant.1 (omega (arith, c.loop-a-test.false, c.len-a-end.ensures))),
+pub loop-need-preserved-then-need-place : goal.loop-need-preserved-then-need-place
+loop-need-preserved-then-need-place c =
+    let i = c.search.i in
+    let d = c.need-item.result in (
+      c.loop-need.invariant.0,
+      none_next _ _ c.loop-need.need-index d c.loop-need.invariant.1 (omega arith) c.need-item.is (when_failed (eqb d.context i) _ (ne_eqb d.context i c.if-need-place.true)),
     )
 
 pub returns-after-search : goal.returns-after-search
 returns-after-search c =
-    let s = model c.args.self.now in
-    c.search.invariant.0 ∙ sym (first_none (edge_context s c.args.rule) s.contexts c.search.i c.search.invariant.1 (omega (arith, c.search-test.false, c.len-i-end.ensures)))
+    first_end (edge_context c.args.self.now c.args.rule) _ c.args.self.now.contexts c.search.i _ c.search.invariant.0 (search rules) c.search.invariant.1 (omega arith)
 
 pub returns-then-is_some : goal.returns-then-is_some
 returns-then-is_some c =
-    let s = model c.args.self.now in
-    let e = c.row-context.result in
-    let x = c.row-axiom.result in
-    let d = c.row-need.result in
-    let o = c.at_edge-found.result in
-    let some = sym c.if-is_some.ensures in
-    let in_needs = first_left (edge_need s c.args.rule c.search.i x) s.needs c.loop-j.j d o c.loop-j.invariant.1 c.row-need.ensures
-    (when_passed (eqb d.context c.search.i) _ (eq-eqb d.context c.search.i c.if-need-i.false) ∙ sym c.at_edge-found.ensures) some in
-    let in_axioms = first_left (edge_axiom s c.args.rule c.search.i e) s.axioms c.loop-a.a x o c.loop-a.invariant.1 c.row-axiom.ensures
-    (when_passed (edge_applies c.args.rule e x) _ (sym c.if-not-applies.ensures) ∙ in_needs) some in
-    sym (first_left (edge_context s c.args.rule) s.contexts c.search.i e o c.search.invariant.1 c.row-context.ensures
-    (when_passed (not e.void) _ (ap not c.if-context.false) ∙ in_axioms) some)
+    let s = c.args.self.now in
+    let rule = c.args.rule in
+    let i = c.search.i in
+    let e = c.context-item.result in
+    let x = c.axiom-item.result in
+    let d = c.need-item.result in
+    let some = c.if-is_some.ensures in
+    when_left (λ i e. not e.void) (λ i e. first 0 s.axioms (edge_axiom s rule i e)) _ s.contexts i e _ (search rules) c.search.invariant.1 (omega arith) c.context-item.is (ap not c.if-context.false)
+    (when_left (λ a x. edge_applies rule e x) (λ a x. first 0 s.needs (edge_need s rule i x)) _ s.axioms c.loop-axiom.axiom-index x _ (search rules) c.loop-axiom.invariant.1 (omega arith) c.axiom-item.is (sym c.if-not-applies.ensures)
+    (when_left (λ j d. eqb d.context i) (λ j d. at_edge rule s i x d) _ s.needs c.loop-need.need-index d _ (search rules) c.loop-need.invariant.1 (omega arith) c.need-item.is
+    (eq-eqb d.context i c.if-need-place.false) c.at_edge-found.ensures some) some) some

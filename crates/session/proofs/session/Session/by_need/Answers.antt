@@ -1,61 +1,21 @@
-use Rattle.std.proofs.Common.{not, eqb, sym, ap, ◌∙◌, arith}
-use Rattle.std.proofs.lemmas.Bool.{eq-eqb, ne_eqb}
-use Rattle.session.specs.Models.{model}
-use Rattle.session.proofs.Firsts.{none_more, first_left, first_none, when_passed, when_failed, not_some}
+use Rattle.std.proofs.Common.{not, eqb, ap, arith, rules}
+use Rattle.std.proofs.lemmas.Bool.{eq-eqb}
+use Rattle.calculus.specs.Search.{first}
+use Rattle.session.specs.Scans.{at_need}
+use Rattle.session.proofs.Firsts.{first_end, when_left}
 use Rattle.session.proofs.ScanSteps.{need_context, need_need}
 use Rattle.session.proofs.session.Session.by_need.Goals as goal
 
-pub search-preserved-then-context : goal.search-preserved-then-context
-search-preserved-then-context c =
-    let s = model c.args.self.now in
-    let e = c.row-context.result in (
-      c.search.invariant.0,
-      none_more (need_context s c.args.rule) s.contexts c.search.i e c.search.invariant.1 c.row-context.ensures
-          (when_failed (not e.void) _ (ap not c.if-context.true)),
-    )
-
-pub loop-j-preserved-then-need-i : goal.loop-j-preserved-then-need-i
-loop-j-preserved-then-need-i c =
-    let s = model c.args.self.now in
-    let d = c.row-need.result in (
-      c.loop-j.invariant.0,
-      none_more (need_need s c.args.rule c.search.i) s.needs c.loop-j.j d c.loop-j.invariant.1 c.row-need.ensures
-          (when_failed (eqb d.context c.search.i) _ (ne_eqb d.context c.search.i c.if-need-i.true)),
-    )
-
-pub loop-j-preserved : goal.loop-j-preserved
-loop-j-preserved c =
-    let s = model c.args.self.now in
-    let d = c.row-need.result in
-    let none = not_some c.at_need-found.result (sym c.if-is_some.ensures) in (
-      none,
-      none_more (need_need s c.args.rule c.search.i) s.needs c.loop-j.j d c.loop-j.invariant.1 c.row-need.ensures
-          (when_passed (eqb d.context c.search.i) _ (eq-eqb d.context c.search.i c.if-need-i.false) ∙ sym c.at_need-found.ensures ∙ none),
-    )
-
-pub search-preserved : goal.search-preserved
-search-preserved c =
-    let s = model c.args.self.now in
-    let e = c.row-context.result in (
-      c.loop-j.invariant.0,
-      none_more (need_context s c.args.rule) s.contexts c.search.i e c.search.invariant.1 c.row-context.ensures
-          (when_passed (not e.void) _ (ap not c.if-context.false)
-          ∙ first_none (need_need s c.args.rule c.search.i) s.needs c.loop-j.j c.loop-j.invariant.1 (omega (arith, c.loop-j-test.false, c.len-j-end.ensures))),
-    )
-
 pub returns-after-search : goal.returns-after-search
 returns-after-search c =
-    let s = model c.args.self.now in
-    c.search.invariant.0 ∙ sym (first_none (need_context s c.args.rule) s.contexts c.search.i c.search.invariant.1 (omega (arith, c.search-test.false, c.len-i-end.ensures)))
+    first_end (need_context c.args.self.now c.args.rule) _ c.args.self.now.contexts c.search.i _ c.search.invariant.0 (search rules) c.search.invariant.1 (omega arith)
 
 pub returns-then-is_some : goal.returns-then-is_some
 returns-then-is_some c =
-    let s = model c.args.self.now in
-    let e = c.row-context.result in
-    let d = c.row-need.result in
-    let o = c.at_need-found.result in
-    let some = sym c.if-is_some.ensures in
-    let inner = first_left (need_need s c.args.rule c.search.i) s.needs c.loop-j.j d o c.loop-j.invariant.1 c.row-need.ensures
-    (when_passed (eqb d.context c.search.i) _ (eq-eqb d.context c.search.i c.if-need-i.false) ∙ sym c.at_need-found.ensures) some in
-    sym (first_left (need_context s c.args.rule) s.contexts c.search.i e o c.search.invariant.1 c.row-context.ensures
-    (when_passed (not e.void) _ (ap not c.if-context.false) ∙ inner) some)
+    let s = c.args.self.now in
+    let i = c.search.i in
+    let d = c.need-item.result in
+    let some = c.if-is_some.ensures in
+    when_left (λ i e. not e.void) (λ i e. first 0 s.needs (need_need s c.args.rule i)) _ s.contexts i c.context-item.result _ (search rules) c.search.invariant.1 (omega arith) c.context-item.is (ap not c.if-context.false)
+    (when_left (λ j d. eqb d.context i) (λ j d. at_need c.args.rule s i d) _ s.needs c.loop-need.need-index d _ (search rules) c.loop-need.invariant.1 (omega arith) c.need-item.is
+    (eq-eqb d.context i c.if-need-place.false) c.at_need-found.ensures some) some

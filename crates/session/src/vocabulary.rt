@@ -1,0 +1,115 @@
+// The terms and roles in use.
+ghost use Rattle.std.specs.Prelude.{◌≡◌};
+ghost use Rattle.numbers.specs.Bits.{possible};
+ghost use Rattle.session.specs.Taking.{terms_to, role_used, filler_used, axiom_used, entry_refusal};
+ghost use Rattle.session.specs.Wanting.{set_of};
+
+use crate::refusal::Refusal;
+use numbers::role::DirectedRole;
+use numbers::set::NumberSet;
+use numbers::term::Term;
+use numbers::term_set::TermSet;
+use shelf::fault::Entry;
+use shelf::form::{Axiom, Form};
+
+// The terms 1 to `terms`, whose set is `all`, and the roles 1 to `roles`.
+#[derive(Clone, Copy)]
+pub(crate) struct Vocabulary {
+    pub terms: u8,
+    pub roles: u8,
+    all: TermSet,
+    ghost all_terms: { all ≡ terms_to terms },
+}
+
+impl Vocabulary {
+    // The terms from 1 to n and the roles from 1 to q.
+    pub(crate) fn new(terms: u8, roles: u8) -> Vocabulary
+        ensures terms { result.terms ≡ terms }
+        ensures roles { result.roles ≡ roles }
+    {
+        Vocabulary {
+            terms,
+            roles,
+            all: terms_to(terms),
+        }
+    }
+
+    // Whether a term is in use.
+    fn has_term(self, term: Term) -> bool
+        ensures { result ≡ possible self.terms term.0 }
+    {
+        term.0 >= 1 && term.0 <= self.terms
+    }
+
+    // Whether a role is in use, in either direction.
+    fn has_role(self, role: DirectedRole) -> bool
+        ensures { result ≡ role_used self.roles role }
+    {
+        match role {
+            DirectedRole::Forward(role) | DirectedRole::Backward(role) => role.0 >= 1
+                && role.0 <= self.roles,
+        }
+    }
+
+    // Whether a filler is everything or a term in use.
+    fn has_filler(self, filler: Option<Term>) -> bool
+        ensures { result ≡ filler_used self.terms filler }
+    {
+        filler.is_none_or(|term| self.has_term(term))
+    }
+
+    // Whether an axiom uses no other terms and roles.
+    fn has_axiom(self, axiom: Axiom) -> bool
+        ensures { result ≡ axiom_used (terms_to self.terms) self.terms self.roles «axiom» }
+    {
+        match axiom {
+            Form::Under { left, term } => self.all.includes(left) && self.has_term(term),
+            Form::Nothing { left } => self.all.includes(left),
+            Form::Exists { left, role, filler } | Form::AtMostOne { left, role, filler } => self
+                .all
+                .includes(left)
+                && self.has_role(role)
+                && self.has_filler(filler),
+            Form::Only { left, role, term } => self.all.includes(left)
+                && self.has_role(role)
+                && self.has_term(term),
+            Form::RoleUnder { lower, upper } => self.has_role(lower) && self.has_role(upper),
+        }
+    }
+
+    // Why an entry at a place of a packet is refused.
+    pub(crate) fn refuses(self, place: u16, entry: Entry) -> Option<Refusal>
+        ensures { result ≡ entry_refusal (terms_to self.terms) self.terms self.roles place «entry» }
+    {
+        match entry {
+            Err(fault) => Some(Refusal::from((fault, place))),
+            Ok(axiom) if self.has_axiom(axiom) => None,
+            Ok(_) => Some(Refusal::Unused { place }),
+        }
+    }
+
+    // The set of a list of terms, if all of them are in use.
+    #[tactic(auto, using(std::proofs::lemmas::List::at_drop_more, std::proofs::lemmas::List::at_drop_all))]
+    pub(crate) fn set_of(self, terms: &[Term]) -> Option<TermSet>
+        ensures { result ≡ set_of self.terms terms.now }
+    {
+        let mut set = TermSet::empty();
+        for term in terms {
+            if !self.has_term(*term) {
+                return None;
+            }
+            set = set.union(TermSet::only(*term));
+        }
+        Some(set)
+    }
+}
+
+// The set of the terms from 1 to n.
+fn terms_to(n: u8) -> TermSet
+    ensures { result ≡ terms_to n }
+{
+    (0..n).fold(
+        TermSet::empty(),
+        |set, i| set.union(TermSet::only(Term(i + 1))),
+    )
+}
