@@ -4,6 +4,11 @@ use Rattle.numbers.specs.Bits.{possible}
 use Rattle.numbers.specs.declared.role.DirectedRole.{DirectedRole}
 use Rattle.numbers.specs.declared.role.DirectedRole.TheVariants.{Forward, Backward}
 
+-- a role from 1 to n, in either direction
+abbrev pub role_up_to : ℕ → DirectedRole → Bool
+role_up_to n (Forward r) = possible n r.0
+role_up_to n (Backward r) = possible n r.0
+
 -- a role that means something
 abbrev pub is_role : DirectedRole → Bool
 is_role (Forward r) = possible 16 r.0

@@ -1,6 +1,6 @@
 // A role by its number, and a role with the direction in which it is read.
 ghost use Rattle.std.specs.Prelude.{◌≡◌};
-ghost use Rattle.numbers.specs.Roles.{turn, is_role};
+ghost use Rattle.numbers.specs.Roles.{turn, is_role, role_up_to};
 
 // The roles that mean something have the numbers 1 to 16; the calls that are given a role test that.
 #[derive(Clone, Copy, PartialEq, Eq, Debug)]
@@ -18,8 +18,15 @@ impl DirectedRole {
     pub fn in_range(self) -> bool
         ensures { result ≡ is_role self }
     {
+        self.up_to(16)
+    }
+
+    // Whether the number is from 1 to n.
+    pub fn up_to(self, n: u8) -> bool
+        ensures { result ≡ role_up_to n self }
+    {
         let (DirectedRole::Forward(role) | DirectedRole::Backward(role)) = self;
-        role.0 >= 1 && role.0 <= 16
+        (1..=n).contains(&role.0)
     }
 
     // The same role read in the other direction.

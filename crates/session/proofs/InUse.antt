@@ -16,7 +16,8 @@ use Rattle.calculus.proofs.SetFacts.{has_covered, has_joined, has_not_none, has_
 use Rattle.calculus.specs.Makes.{words}
 use Rattle.calculus.specs.Reached.{FillerInUse, RoleInUse, SetInUse, InUse}
 use Rattle.calculus.specs.States.{At}
-use Rattle.session.specs.Taking.{terms_to, role_used, filler_used, axiom_used, entry_refusal, entries_refusal, or_else, axioms_of}
+use Rattle.numbers.specs.Roles.{role_up_to}
+use Rattle.session.specs.Taking.{terms_to, filler_used, axiom_used, entry_refusal, entries_refusal, or_else, axioms_of}
 use Rattle.session.specs.Wanting.{gathered, set_of}
 use Rattle.session.specs.declared.refusal.Refusal.TheVariants.{Unused}
 
@@ -33,7 +34,7 @@ terms_to_small (suc n) k h = ⊎_elim
 covered_in_use : (n : ℕ) (l : TermSet) → term_covers (terms_to n) l ≡ true → SetInUse words n l
 covered_in_use n l h k e = terms_to_small n k (has_covered words.terms lawful_words.terms (terms_to n) l k h e)
 
-role_in_use : (q : ℕ) (r : DirectedRole) → role_used q r ≡ true → RoleInUse q r
+role_in_use : (q : ℕ) (r : DirectedRole) → role_up_to q r ≡ true → RoleInUse q r
 role_in_use q (Forward r) h = possible_parts q r.0 h
 role_in_use q (Backward r) h = possible_parts q r.0 h
 
@@ -45,18 +46,18 @@ used_in_use : (n q : ℕ) (x : Axiom) → axiom_used (terms_to n) n q x ≡ true
 used_in_use n q (Under l t) h = let a = and_parts (term_covers (terms_to n) l) (possible n t.0) h in (covered_in_use n l a.0, possible_parts n t.0 a.1)
 used_in_use n q (Nothing l) h = covered_in_use n l h
 used_in_use n q (Exists l r f) h =
-    let a = and_parts (term_covers (terms_to n) l) (role_used q r && filler_used n f) h in
-    let b = and_parts (role_used q r) (filler_used n f) a.1 in
+    let a = and_parts (term_covers (terms_to n) l) (role_up_to q r && filler_used n f) h in
+    let b = and_parts (role_up_to q r) (filler_used n f) a.1 in
     (covered_in_use n l a.0, role_in_use q r b.0, filler_in_use n f b.1)
 used_in_use n q (Only l r t) h =
-    let a = and_parts (term_covers (terms_to n) l) (role_used q r && possible n t.0) h in
-    let b = and_parts (role_used q r) (possible n t.0) a.1 in
+    let a = and_parts (term_covers (terms_to n) l) (role_up_to q r && possible n t.0) h in
+    let b = and_parts (role_up_to q r) (possible n t.0) a.1 in
     (covered_in_use n l a.0, role_in_use q r b.0, possible_parts n t.0 b.1)
 used_in_use n q (AtMostOne l r f) h =
-    let a = and_parts (term_covers (terms_to n) l) (role_used q r && filler_used n f) h in
-    let b = and_parts (role_used q r) (filler_used n f) a.1 in
+    let a = and_parts (term_covers (terms_to n) l) (role_up_to q r && filler_used n f) h in
+    let b = and_parts (role_up_to q r) (filler_used n f) a.1 in
     (covered_in_use n l a.0, role_in_use q r b.0, filler_in_use n f b.1)
-used_in_use n q (RoleUnder r u) h = let a = and_parts (role_used q r) (role_used q u) h in (role_in_use q r a.0, role_in_use q u a.1)
+used_in_use n q (RoleUnder r u) h = let a = and_parts (role_up_to q r) (role_up_to q u) h in (role_in_use q r a.0, role_in_use q u a.1)
 
 pub or_both : {X : Type 0} (o p : Option X) → or_else o p ≡ None → (o ≡ None) × (p ≡ None)
 or_both None p e = (refl, e)

@@ -1,7 +1,6 @@
 pub mod Bridges
 pub mod Firsts
 pub mod InUse
-pub mod Packets
 pub mod RestLaws
 pub mod RunLaws
 pub mod ScanSteps

@@ -1,5 +1,5 @@
 -- What is found in the rows of a table, and how rows are put and changed. Assumes nothing.
-use Rattle.std.proofs.Common.{◌≡◌, ℕ, zero, suc, ◌+◌, ◌<◌, ◌≤◌, Bool, true, false, cond, List, [], ◌∷◌, ◌++◌, length, take, drop, get_or, set, is_some, Some, None, Option, sym, refl, ap, ◌∙◌, ◌||◌, subst, add-one, arith, drop_of_length-le}
+use Rattle.std.proofs.Common.{◌≡◌, ℕ, zero, suc, ◌+◌, ◌<◌, ◌≤◌, Bool, true, false, cond, List, [], ◌∷◌, ◌++◌, length, take, get_or, set, is_some, Some, None, Option, sym, refl, ap, ◌∙◌, ◌||◌, subst, add-one, arith}
 use Rattle.std.specs.List.{slice_get, list_any, position, position_from}
 use Rattle.std.proofs.lemmas.List.Quantifiers.{position-Some}
 use Rattle.std.proofs.lemmas.Option.{slice_get_read}
@@ -12,18 +12,6 @@ take_set_in zero xs i x h = absurd (omega arith)
 take_set_in (suc n) [] i x h = absurd (omega arith)
 take_set_in (suc n) (y ∷ ys) zero x h = refl
 take_set_in {X} (suc n) (y ∷ ys) (suc i) x h = ap (λ (zs : List X). y ∷ zs) (take_set_in n ys i x (omega arith))
-
--- what is left of a list at a place, and past its end
-drop_at-suc : {X : Type 0} (xs : List X) (i : ℕ) (x : X) → At xs i x → drop i xs ≡ x ∷ drop (suc i) xs
-drop_at-suc [] i x a = absurd (none_some x a)
-drop_at-suc {X} (y ∷ ys) zero x a = ap (λ (z : X). z ∷ ys) (some_same y x a)
-drop_at-suc {X} (y ∷ ys) (suc i) x a = drop_at-suc ys i x a
-
-pub drop_at_place : {X : Type 0} (xs : List X) (i : ℕ) (x : X) → At xs i x → drop i xs ≡ x ∷ drop (i + 1) xs
-drop_at_place xs i x a = drop_at-suc xs i x a ∙ ap (λ (n : ℕ). x ∷ drop n xs) (sym (add-one i))
-
-pub drop_past : {X : Type 0} (xs : List X) (i : ℕ) → length xs ≤ i → drop i xs ≡ []
-drop_past xs i h = drop_of_length-le xs h
 
 -- the place of what is found is the first position that passes
 abbrev place_of : {X : Type 0} → Option (ℕ × X) → Option ℕ

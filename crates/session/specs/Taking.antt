@@ -1,9 +1,8 @@
 -- Taking a packet of entries. Assumes nothing.
 use Rattle.std.specs.Prelude.{ℕ, zero, suc, ◌+◌, Bool, true, false, cond, ◌&&◌, List, [], ◌∷◌, ◌++◌, length, Some, None, Ok, Err, Option, Result, nat_le}
 use Rattle.numbers.specs.Bits.{possible}
+use Rattle.numbers.specs.Roles.{role_up_to}
 use Rattle.numbers.specs.TermSets.{term_none, term_single, term_joined, term_covers}
-use Rattle.numbers.specs.declared.role.DirectedRole.{DirectedRole}
-use Rattle.numbers.specs.declared.role.DirectedRole.TheVariants.{Forward, Backward}
 use Rattle.numbers.specs.declared.term.Term.{Term}
 use Rattle.numbers.specs.declared.term_set.TermSet.{TermSet}
 use Rattle.shelf.specs.Axioms.{Axiom}
@@ -20,11 +19,7 @@ abbrev pub terms_to : ℕ → TermSet
 terms_to zero = term_none
 terms_to (suc n) = term_joined (terms_to n) (term_single (suc n))
 
--- a role, a filler and an axiom that use no term above n and no role above q; `all` is the set of the terms to n
-abbrev pub role_used : ℕ → DirectedRole → Bool
-role_used q (Forward r) = possible q r.0
-role_used q (Backward r) = possible q r.0
-
+-- a filler and an axiom that use no term above n and no role above q; `all` is the set of the terms to n
 abbrev pub filler_used : ℕ → Option Term → Bool
 filler_used n None = true
 filler_used n (Some t) = possible n t.0
@@ -32,10 +27,10 @@ filler_used n (Some t) = possible n t.0
 abbrev pub axiom_used : TermSet → ℕ → ℕ → Axiom → Bool
 axiom_used all n q (Under l t) = term_covers all l && possible n t.0
 axiom_used all n q (Nothing l) = term_covers all l
-axiom_used all n q (Exists l r f) = term_covers all l && (role_used q r && filler_used n f)
-axiom_used all n q (Only l r t) = term_covers all l && (role_used q r && possible n t.0)
-axiom_used all n q (AtMostOne l r f) = term_covers all l && (role_used q r && filler_used n f)
-axiom_used all n q (RoleUnder r u) = role_used q r && role_used q u
+axiom_used all n q (Exists l r f) = term_covers all l && (role_up_to q r && filler_used n f)
+axiom_used all n q (Only l r t) = term_covers all l && (role_up_to q r && possible n t.0)
+axiom_used all n q (AtMostOne l r f) = term_covers all l && (role_up_to q r && filler_used n f)
+axiom_used all n q (RoleUnder r u) = role_up_to q r && role_up_to q u
 
 -- why an entry at the place k is refused
 abbrev pub entry_refusal : TermSet → ℕ → ℕ → ℕ → Entry → Option Refusal

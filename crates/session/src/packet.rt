@@ -13,8 +13,8 @@ use shelf::shelf::Shelf;
 pub(crate) fn refusal<S: Shelf>(shelf: &S, vocabulary: Vocabulary) -> Option<Refusal>
     ensures { result ≡ entries_refusal (terms_to vocabulary.terms) vocabulary.terms vocabulary.roles 1 (S.Shelf.list shelf.now) }
 {
-    for i in 0..shelf.count() {
-        let refused = vocabulary.refuses(i + 1, shelf.entry(i + 1));
+    for (i, entry) in shelf.entries().enumerate() {
+        let refused = vocabulary.refuses(i as u16 + 1, entry);
         if refused.is_some() {
             return refused;
         }
@@ -39,7 +39,7 @@ pub(crate) fn append_all<S: Shelf>(table: &mut Table<Axiom>, shelf: &S)
     ensures rows { table.new.rows ≡ table.old.rows ++ axioms_of (S.Shelf.list shelf.now) }
     ensures room { table.new.room ≡ table.old.room }
 {
-    for i in 0..shelf.count() {
-        append_entry(table, shelf.entry(i + 1));
+    for entry in shelf.entries() {
+        append_entry(table, entry);
     }
 }

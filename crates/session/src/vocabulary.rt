@@ -1,7 +1,8 @@
 // The terms and roles in use.
 ghost use Rattle.std.specs.Prelude.{◌≡◌};
 ghost use Rattle.numbers.specs.Bits.{possible};
-ghost use Rattle.session.specs.Taking.{terms_to, role_used, filler_used, axiom_used, entry_refusal};
+ghost use Rattle.numbers.specs.Roles.{role_up_to};
+ghost use Rattle.session.specs.Taking.{terms_to, filler_used, axiom_used, entry_refusal};
 ghost use Rattle.session.specs.Wanting.{set_of};
 
 use crate::refusal::Refusal;
@@ -38,17 +39,14 @@ impl Vocabulary {
     fn has_term(self, term: Term) -> bool
         ensures { result ≡ possible self.terms term.0 }
     {
-        term.0 >= 1 && term.0 <= self.terms
+        term.up_to(self.terms)
     }
 
     // Whether a role is in use, in either direction.
     fn has_role(self, role: DirectedRole) -> bool
-        ensures { result ≡ role_used self.roles role }
+        ensures { result ≡ role_up_to self.roles role }
     {
-        match role {
-            DirectedRole::Forward(role) | DirectedRole::Backward(role) => role.0 >= 1
-                && role.0 <= self.roles,
-        }
+        role.up_to(self.roles)
     }
 
     // Whether a filler is everything or a term in use.
@@ -98,7 +96,7 @@ impl Vocabulary {
             if !self.has_term(*term) {
                 return None;
             }
-            set = set.union(TermSet::only(*term));
+            set = set.with(*term);
         }
         Some(set)
     }
@@ -108,8 +106,5 @@ impl Vocabulary {
 fn terms_to(n: u8) -> TermSet
     ensures { result ≡ terms_to n }
 {
-    (0..n).fold(
-        TermSet::empty(),
-        |set, i| set.union(TermSet::only(Term(i + 1))),
-    )
+    (0..n).fold(TermSet::empty(), |set, i| set.with(Term(i + 1)))
 }

@@ -181,7 +181,7 @@ impl<'a> Session<'a> {
         self.missing(Finding::Needed {
             need: Need {
                 context: need.context,
-                roles: need.roles.union(RoleSet::only(more)),
+                roles: need.roles.with(more),
                 terms: need.terms,
             },
         })
@@ -210,7 +210,7 @@ impl<'a> Session<'a> {
                     need: Need {
                         context: need.context,
                         roles: need.roles,
-                        terms: need.terms.union(TermSet::only(term)),
+                        terms: need.terms.with(term),
                     },
                 }),
             (EdgeRule::OnlyUp, Form::Only { left, role, term })
