@@ -11,6 +11,7 @@ use Rattle.catalogue.specs.Bodies.{read_left, left_set}
 use Rattle.writer.specs.Writing.{left_bytes}
 use Rattle.shelf.specs.Faults.{at_byte}
 use Rattle.shelf.specs.declared.fault.Cause.TheVariants.{Left}
+use Rattle.writer.proofs.Members.{all_members}
 
 -- sets with the same members are the same
 same_members : (a b : TermSet) → ((n : ℕ) → term_has a n ≡ term_has b n) → a ≡ b
@@ -61,8 +62,7 @@ none_below s zero = refl
 none_below s (suc k) = sym (and_right (term_has s (suc k)) (ltb (suc k) 1) (le-ltb (suc k) 1 (omega arith)))
 
 pub left_reads : (at : ℕ) (s : TermSet) → left_set at (left_bytes s) ≡ Ok s
-unfolding left_bytes
-left_reads at s = reads_from s 64 1 (at + 3) 0 term_none (omega arith) refl (λ m. term_laws.none_has m ∙ none_below s m)
+left_reads at s = ap (left_set at) (sym (all_members s 64 refl)) ∙ reads_from s 64 1 (at + 3) 0 term_none (omega arith) refl (λ m. term_laws.none_has m ∙ none_below s m)
 
 or_none : (x : Bool) → (x || false) ≡ x
 or_none true = refl
@@ -148,5 +148,4 @@ writes_from s (suc fuel) n at before a (b ∷ bs) lt e ends from h =
         cond-false (term_has s n) (n ∷ rest) rest none ∙ passed later
 
 pub left_writes : (at : ℕ) (l : List ℕ) (s : TermSet) → left_set at l ≡ Ok s → left_bytes s ≡ l
-unfolding left_bytes
-left_writes at l s h = writes_from s 64 1 (at + 3) 0 term_none l (omega arith) refl (λ m _. term_laws.none_has m) (from_read l (at + 3) 0 term_none s h) h
+left_writes at l s h = sym (all_members s 64 refl) ∙ writes_from s 64 1 (at + 3) 0 term_none l (omega arith) refl (λ m _. term_laws.none_has m) (from_read l (at + 3) 0 term_none s h) h

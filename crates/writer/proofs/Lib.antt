@@ -3,5 +3,7 @@ pub mod Filling
 pub mod LaidOut
 pub mod LeftRead
 pub mod Members
+pub mod Places
 pub mod RoundTrip
 pub mod WrittenAgain
+pub mod Sizes

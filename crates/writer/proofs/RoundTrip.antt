@@ -1,10 +1,10 @@
 -- A written catalogue reads back as the list it was written from. Assumes nothing.
-use Rattle.std.proofs.Common.{◌≡◌, ℕ, zero, suc, ◌+◌, ◌*◌, ◌/◌, ◌%◌, ◌<◌, ◌≤◌, true, eqb, ltb, List, [], ◌∷◌, ◌++◌, map, length, get_or, take, drop, Ok, Err, Result, sym, refl, ap, ◌∙◌, subst, ap₂, ⊎_elim, add-zero, add-one, arith}
+use Rattle.std.proofs.Common.{◌≡◌, ℕ, zero, suc, ◌+◌, ◌*◌, ◌/◌, ◌%◌, ◌<◌, ◌≤◌, true, eqb, ltb, List, [], ◌++◌, map, length, get_or, take, drop, Ok, Err, Result, sym, refl, ap, ◌∙◌, subst, ap₂, ⊎_elim, add-zero, add-one, arith}
 use lib.ListN.{length-map}
 use Rattle.std.specs.List.{range_with_len}
 use Rattle.std.proofs.lemmas.List.FromFn.{fill_by_all}
 use Rattle.std.proofs.lemmas.List.{get_or-append-add, take_at, drop_at}
-use Rattle.std.proofs.lemmas.Bool.{cases_lt, cond-true, and_from, or_left, or_right, le-leb, lt-ltb, eq-eqb, false≢true}
+use Rattle.std.proofs.lemmas.Bool.{cases_lt, cond-true, and_from, or_left, or_right, le-leb, lt-ltb, eq-eqb}
 use Rattle.shelf.specs.Axioms.{Axiom, sound}
 use Rattle.catalogue.specs.Bodies.{and_then, read_form, to_axiom}
 use Rattle.catalogue.specs.Catalogues.{word_at, entries, readable, start_of, size_of, due_start, line_right, body_of, form_of, axiom_of, catalogue_list}
@@ -15,7 +15,7 @@ use Rattle.shelf.specs.declared.fault.ByteFault.{ByteFault}
 use Rattle.shelf.specs.declared.fault.Cause.TheVariants.{Contents}
 use Rattle.shelf.specs.declared.form.Form.{Form}
 use Rattle.writer.proofs.BodyRead.{body_reads}
-use Rattle.writer.proofs.Filling.{sound_at, body_at}
+use Rattle.writer.proofs.Places.{sound_at, body_at, axiom_at}
 use Rattle.writer.proofs.LaidOut.{line_front, line_part, line_rest, body_front, body_rest, offset, offset_next, offset_end, offset-within, length_laid, line_split, line_before, body_split, body_before}
 use Rattle.writer.proofs.Members.{length_body}
 
@@ -82,13 +82,6 @@ module _ (bs : List (List ℕ)) (few : length bs ≤ 512) (each : (i : ℕ) → 
   -- each body is found where its line says
   pub form_is : (i : ℕ) → i < length bs → form_of all i ≡ read_form (start_of all i) (get_or bs i [])
   form_is i h = cond-true (line_right all i) _ _ (right_is i h) ∙ ap (read_form (start_of all i)) (body_is i h)
-
--- the entries of a faultless list are axioms
-pub axiom_at : (es : List Entry) (i : ℕ) (d : Entry) → faultless es ≡ true → i < length es → (a : Axiom) × (get_or es i d ≡ Ok a)
-axiom_at [] i d f h = absurd (omega arith)
-axiom_at (Ok a ∷ es) zero d f h = (a, refl)
-axiom_at (Ok a ∷ es) (suc i) d f h = axiom_at es i d f (omega arith)
-axiom_at (Err e ∷ es) i d f h = absurd (false≢true f)
 
 -- the list of bytes that can be read
 pub list_is : (bytes : List ℕ) (m n : ℕ) → readable bytes ≡ true → entries bytes ≡ n → catalogue_list bytes m ≡ map (λ i. placed m (suc i) (axiom_of bytes i)) (range_with_len 0 n)

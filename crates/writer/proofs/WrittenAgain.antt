@@ -10,14 +10,15 @@ use Rattle.catalogue.specs.Bodies.{and_then, to_axiom}
 use Rattle.catalogue.specs.Catalogues.{Bytes, word_at, entries, readable, line_byte, start_of, size_of, due_start, line_right, body_of, axiom_of, catalogue_list}
 use Rattle.shelf.specs.Faults.{at_byte}
 use Rattle.shelf.specs.Shelves.{Entry, placed}
-use Rattle.writer.specs.Writing.{two_bytes, body_bytes, entry_bytes, entry_bodies, lines_from, bodies, laid_out, catalogue_bytes, faultless}
+use Rattle.std.specs.List.{concat}
+use Rattle.writer.specs.Writing.{two_bytes, body_bytes, entry_bytes, entry_bodies, lines_from, laid_out, catalogue_bytes, faultless}
 use Rattle.shelf.specs.declared.fault.ByteFault.{ByteFault}
 use Rattle.shelf.specs.declared.fault.Cause.TheVariants.{Line}
 use Rattle.shelf.specs.declared.form.Form.{Form}
 use Rattle.catalogue.specs.CatalogueLists.{readable_whole, readable-empty}
 use Rattle.writer.proofs.BodyRead.{body_writes}
-use Rattle.writer.proofs.Filling.{body_at}
-use Rattle.writer.proofs.RoundTrip.{axiom_at, list_is}
+use Rattle.writer.proofs.Places.{body_at, axiom_at}
+use Rattle.writer.proofs.RoundTrip.{list_is}
 
 -- what a contents line that is right says
 pub record Right (bs : List ℕ) (i : ℕ) : Type 0 where
@@ -72,12 +73,12 @@ module _ (bytes : List ℕ) (small : Bytes bytes) where
         ⊎_elim (λ (l : k + 1 < entries bytes). absurd (omega arith)) (λ (l : start_of bytes k + size_of bytes k ≡ length bytes). omega arith) r.last
 
     -- the lines and the bodies from the entry i on
-    from : (j i : ℕ) → i + j ≡ entries bytes → (lines_from (due_start bytes i) (drop i bs) ++ drop (2 + 4 * entries bytes) bytes ≡ drop (2 + 4 * i) bytes) × (bodies (drop i bs) ≡ drop (due_start bytes i) bytes)
+    from : (j i : ℕ) → i + j ≡ entries bytes → (lines_from (due_start bytes i) (drop i bs) ++ drop (2 + 4 * entries bytes) bytes ≡ drop (2 + 4 * i) bytes) × (concat (drop i bs) ≡ drop (due_start bytes i) bytes)
     from zero i e =
         let here : i ≡ entries bytes = omega arith in
         let done : drop i bs ≡ [] = drop_all i bs (omega arith) in (
           ap (λ (xs : List (List ℕ)). lines_from (due_start bytes i) xs ++ drop (2 + 4 * entries bytes) bytes) done ∙ ap (λ (n : ℕ). drop (2 + 4 * n) bytes) (sym here),
-          ap bodies done ∙ sym (drop_all (due_start bytes i) bytes (end_is i here)),
+          ap concat done ∙ sym (drop_all (due_start bytes i) bytes (end_is i here)),
         )
     from (suc j) i e =
         let h : i < entries bytes = omega arith in
@@ -92,7 +93,7 @@ module _ (bytes : List ℕ) (small : Bytes bytes) where
               ∙ ap (λ (n : ℕ). two_bytes (start_of bytes i) ++ (two_bytes (size_of bytes i) ++ drop n bytes)) (four i)
               ∙ ap (λ (xs : List ℕ). two_bytes (start_of bytes i) ++ xs) (sym (two_drop (2 + 4 * i + 2) (omega arith)))
               ∙ sym (two_drop (2 + 4 * i) (omega arith)),
-          ap bodies split ∙ ap₂ (λ (xs ys : List ℕ). xs ++ ys) (body i h) later.1
+          ap concat split ∙ ap₂ (λ (xs ys : List ℕ). xs ++ ys) (body i h) later.1
               ∙ ap (λ (xs : List ℕ). body_of bytes i ++ xs) (sym (drop-drop (size_of bytes i) (start_of bytes i) bytes))
               ∙ take-append-drop (size_of bytes i) (drop (start_of bytes i) bytes)
               ∙ ap (λ (n : ℕ). drop n bytes) r.start,

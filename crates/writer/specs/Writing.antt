@@ -1,13 +1,15 @@
 -- The catalogue that a shelf is written as. Assumes nothing.
-use Rattle.std.specs.Prelude.{ℕ, ◌+◌, ◌*◌, ◌/◌, ◌%◌, Bool, true, false, cond, ◌&&◌, List, [], ◌∷◌, ◌++◌, map, length, take, drop, Some, None, Ok, Err, filter, Option, Result, nat_le}
-use Rattle.std.specs.List.{range_with_len}
-use Rattle.numbers.specs.TermSets.{term_has}
+use Rattle.std.specs.Prelude.{ℕ, ◌+◌, ◌*◌, ◌/◌, ◌%◌, Bool, cond, ◌&&◌, List, [], ◌∷◌, ◌++◌, map, length, take, drop, Some, None, Ok, Err, is_ok, Option, Result, nat_le}
+use Rattle.std.specs.List.{concat, list_all}
+use Rattle.numbers.specs.TermSets.{term_number}
+use Rattle.numbers.specs.TermLists.{terms_of}
 use Rattle.numbers.specs.declared.role.DirectedRole.{DirectedRole}
 use Rattle.numbers.specs.declared.role.DirectedRole.TheVariants.{Forward, Backward}
 use Rattle.numbers.specs.declared.term.Term.{Term}
 use Rattle.numbers.specs.declared.term_set.TermSet.{TermSet}
 use Rattle.shelf.specs.Axioms.{Axiom}
 use Rattle.shelf.specs.Shelves.{Entry}
+use Rattle.shelf.specs.declared.form.Form.{Form}
 use Rattle.shelf.specs.declared.form.Form.TheVariants.{Under, Nothing, Exists, Only, AtMostOne, RoleUnder}
 use Rattle.writer.specs.declared.WriteRefusal.{WriteRefusal}
 use Rattle.writer.specs.declared.WriteRefusal.TheVariants.{Unwritable, TooShort}
@@ -30,17 +32,21 @@ filler_byte None = 0
 filler_byte (Some t) = t.0
 
 -- the terms of a set, rising
-unfoldable pub left_bytes : TermSet → List ℕ
-left_bytes s = filter (term_has s) (range_with_len 1 64)
+abbrev pub left_bytes : TermSet → List ℕ
+left_bytes s = map term_number (terms_of s)
+
+-- the bytes of a form, by those of its left side: its kind, two fields and the left side
+abbrev pub form_bytes : {L : Type 0} → (L → List ℕ) → Form L → List ℕ
+form_bytes left (Under l t) = 1 ∷ 0 ∷ t.0 ∷ left l
+form_bytes left (Nothing l) = 2 ∷ 0 ∷ 0 ∷ left l
+form_bytes left (Exists l r x) = 3 ∷ role_byte r ∷ filler_byte x ∷ left l
+form_bytes left (Only l r t) = 4 ∷ role_byte r ∷ t.0 ∷ left l
+form_bytes left (AtMostOne l r x) = 5 ∷ role_byte r ∷ filler_byte x ∷ left l
+form_bytes left (RoleUnder r q) = 6 ∷ role_byte r ∷ role_byte q ∷ []
 
 -- the body of an axiom
 abbrev pub body_bytes : Axiom → List ℕ
-body_bytes (Under l t) = 1 ∷ 0 ∷ t.0 ∷ left_bytes l
-body_bytes (Nothing l) = 2 ∷ 0 ∷ 0 ∷ left_bytes l
-body_bytes (Exists l r x) = 3 ∷ role_byte r ∷ filler_byte x ∷ left_bytes l
-body_bytes (Only l r t) = 4 ∷ role_byte r ∷ t.0 ∷ left_bytes l
-body_bytes (AtMostOne l r x) = 5 ∷ role_byte r ∷ filler_byte x ∷ left_bytes l
-body_bytes (RoleUnder r q) = 6 ∷ role_byte r ∷ role_byte q ∷ []
+body_bytes a = form_bytes left_bytes a
 
 -- the body of an entry; a fault has none
 abbrev pub entry_bytes : Entry → List ℕ
@@ -52,14 +58,9 @@ abbrev pub lines_from : ℕ → List (List ℕ) → List ℕ
 lines_from at [] = []
 lines_from at (b ∷ bs) = two_bytes at ++ (two_bytes (length b) ++ lines_from (at + length b) bs)
 
--- the bodies, one after the other
-abbrev pub bodies : List (List ℕ) → List ℕ
-bodies [] = []
-bodies (b ∷ bs) = b ++ bodies bs
-
 -- the count, the contents and the bodies
 abbrev pub laid_out : List (List ℕ) → List ℕ
-laid_out bs = two_bytes (length bs) ++ (lines_from (2 + 4 * length bs) bs ++ bodies bs)
+laid_out bs = two_bytes (length bs) ++ (lines_from (2 + 4 * length bs) bs ++ concat bs)
 
 -- the bodies of a list of entries, and its catalogue
 abbrev pub entry_bodies : List Entry → List (List ℕ)
@@ -70,9 +71,7 @@ catalogue_bytes es = laid_out (entry_bodies es)
 
 -- no entry is a fault
 abbrev pub faultless : List Entry → Bool
-faultless [] = true
-faultless (Ok a ∷ es) = faultless es
-faultless (Err f ∷ es) = false
+faultless es = list_all is_ok es
 
 -- a catalogue holds at most 512 axioms, and no faults
 abbrev pub writable : List Entry → Bool
