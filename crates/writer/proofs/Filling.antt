@@ -1,6 +1,6 @@
 -- What a shelf and a buffer answer. Assumes nothing.
-use Rattle.std.proofs.Common.{◌≡◌, ℕ, suc, ◌+◌, ◌≤◌, true, leb, List, length, get_or, Ok, ap, ◌∙◌, add-one}
-use Rattle.std.proofs.lemmas.Bool.{cond-true, le-leb}
+use Rattle.std.proofs.Common.{◌≡◌, ℕ, suc, ◌+◌, ◌≤◌, true, List, length, get_or, Ok, ap, add-one, arith}
+use Rattle.std.proofs.lemmas.Bool.Decides.{nat_tests}
 use Rattle.shelf.specs.Shelves.{Entry, entry_at, byteless}
 use Rattle.writer.specs.Writing.{catalogue_bytes, writable, write_answer}
 use Rattle.shelf.specs.declared.fault.Cause.TheVariants.{Outside}
@@ -11,4 +11,4 @@ entry_next es m i = ap (entry_at es m) (add-one i)
 
 -- a list that can be written, into a buffer that is long enough
 pub answer_ok : (es : List Entry) (room : ℕ) → writable es ≡ true → length (catalogue_bytes es) ≤ room → write_answer es room ≡ Ok (length (catalogue_bytes es))
-answer_ok es room h l = cond-true (writable es) _ _ h ∙ cond-true (leb (length (catalogue_bytes es)) room) _ _ (le-leb _ room l)
+answer_ok es room h l = grind (arith, nat_tests)

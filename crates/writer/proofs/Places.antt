@@ -1,7 +1,7 @@
 -- The entries of a list, place by place. Assumes nothing.
 use Rattle.std.proofs.Common.{◌≡◌, ℕ, zero, suc, ◌<◌, true, List, [], ◌∷◌, length, get_or, Ok, Err, refl, arith}
 use Rattle.std.proofs.lemmas.List.{get_or-map}
-use Rattle.std.proofs.lemmas.Bool.{and_parts, false≢true}
+use Rattle.std.proofs.lemmas.Bool.{and_parts}
 use Rattle.shelf.specs.Shelves.{Entry, sound_entry, all_sound}
 use Rattle.writer.specs.Writing.{faultless, entry_bytes, entry_bodies}
 use Rattle.shelf.specs.Axioms.{Axiom}
@@ -21,4 +21,4 @@ pub axiom_at : (es : List Entry) (i : ℕ) (d : Entry) → faultless es ≡ true
 axiom_at [] i d f h = absurd (omega arith)
 axiom_at (Ok a ∷ es) zero d f h = (a, refl)
 axiom_at (Ok a ∷ es) (suc i) d f h = axiom_at es i d f (omega arith)
-axiom_at (Err e ∷ es) i d f h = absurd (false≢true f)
+axiom_at (Err e ∷ es) i d f h = cc

@@ -1,10 +1,11 @@
 -- A written catalogue reads back as the list it was written from. Assumes nothing.
-use Rattle.std.proofs.Common.{◌≡◌, ℕ, zero, suc, ◌+◌, ◌*◌, ◌/◌, ◌%◌, ◌<◌, ◌≤◌, true, eqb, ltb, List, [], ◌++◌, map, length, get_or, take, drop, Ok, Err, Result, sym, refl, ap, ◌∙◌, subst, ap₂, ⊎_elim, add-zero, add-one, arith}
+use Rattle.std.proofs.Common.{◌≡◌, ℕ, zero, suc, ◌+◌, ◌*◌, ◌/◌, ◌%◌, ◌<◌, ◌≤◌, true, List, [], ◌++◌, map, length, get_or, take, drop, Ok, Err, Result, sym, refl, ap, ◌∙◌, subst, ap₂, add-zero, add-one, arith}
 use lib.ListN.{length-map}
 use Rattle.std.specs.List.{range_with_len}
 use Rattle.std.proofs.lemmas.List.FromFn.{fill_by_all}
 use Rattle.std.proofs.lemmas.List.{get_or-append-add, take_at, drop_at}
-use Rattle.std.proofs.lemmas.Bool.{cases_lt, cond-true, and_from, or_left, or_right, le-leb, lt-ltb, eq-eqb}
+use Rattle.std.proofs.lemmas.Bool.Decides.{nat_tests}
+use Rattle.std.proofs.lemmas.Bool.{cond-true}
 use Rattle.shelf.specs.Axioms.{Axiom, sound}
 use Rattle.catalogue.specs.Bodies.{and_then, read_form, to_axiom}
 use Rattle.catalogue.specs.Catalogues.{word_at, entries, readable, start_of, size_of, due_start, line_right, body_of, form_of, axiom_of, catalogue_list}
@@ -22,11 +23,8 @@ use Rattle.writer.proofs.Members.{length_body}
 -- a two-byte number behind a front of k bytes
 word_behind : (all front rest : List ℕ) (k j : ℕ) → all ≡ front ++ rest → length front ≡ k → word_at all (k + j) ≡ word_at rest j
 word_behind all front rest k j e h =
-    ap₂ (λ (a b : ℕ). 256 * a + b) (at j) (ap (λ (n : ℕ). get_or all n 0) (regroup k j) ∙ at (j + 1))
+    ap₂ (λ (a b : ℕ). 256 * a + b) (at j) (ap (λ (n : ℕ). get_or all n 0) (omega arith) ∙ at (j + 1))
   where
-    regroup : (k j : ℕ) → k + j + 1 ≡ k + (j + 1)
-    regroup k j = omega arith
-
     at : (i : ℕ) → get_or all (k + i) 0 ≡ get_or rest i 0
     at i = ap₂ (λ (xs : List ℕ) (n : ℕ). get_or xs (n + i) 0) e (sym h) ∙ get_or-append-add front rest i 0
 
@@ -41,13 +39,7 @@ module _ (bs : List (List ℕ)) (few : length bs ≤ 512) (each : (i : ℕ) → 
   entries_are = two_back (length bs)
 
   pub is_readable : readable all ≡ true
-  is_readable =
-      let len = length_laid bs in
-      and_from _ _ (le-leb 2 (length all) (omega (arith, len)))
-      (and_from _ _ (le-leb (entries all) 512 (omega (arith, entries_are)))
-      (and_from _ _ (le-leb (2 + 4 * entries all) (length all) (omega (arith, entries_are, len)))
-      (⊎_elim (λ (l : 0 < length bs). or_left (ltb 0 (entries all)) (eqb (length all) 2) (lt-ltb 0 (entries all) (omega (arith, entries_are))))
-      (λ (l : length bs ≤ 0). or_right (ltb 0 (entries all)) (eqb (length all) 2) (eq-eqb (length all) 2 (omega (arith, offset_end bs 0 l)))) (cases_lt 0 (length bs)))))
+  is_readable = let len = length_laid bs in let count = entries_are in let end = offset_end bs 0 in grind (arith, nat_tests)
 
   start_is : (i : ℕ) → i < length bs → start_of all i ≡ offset bs i
   start_is i h = ap (word_at all) (sym (add-zero (2 + 4 * i))) ∙ word_behind all (line_front bs i) (line_part bs i ++ line_rest bs i) (2 + 4 * i) 0 (line_split bs i h) (line_before bs i h) ∙ two_back (offset bs i)
@@ -65,13 +57,13 @@ module _ (bs : List (List ℕ)) (few : length bs ≤ 512) (each : (i : ℕ) → 
   right_is i h =
       let start = start_is i h in
       let size = size_is i h in
-      and_from _ _ (eq-eqb (start_of all i) (due_start all i) (start ∙ sym (due_is i h)))
-      (and_from _ _ (le-leb 3 (size_of all i) (omega (arith, size, (each i h).0)))
-      (and_from _ _ (le-leb (size_of all i) 67 (omega (arith, size, (each i h).1)))
-      (and_from _ _ (le-leb (start_of all i + size_of all i) (length all) (omega (arith, start, size, offset-within bs i h)))
-      (⊎_elim (λ (l : i + 1 < length bs). or_left (ltb (i + 1) (entries all)) (eqb (start_of all i + size_of all i) (length all)) (lt-ltb (i + 1) (entries all) (omega (arith, entries_are))))
-      (λ (l : length bs ≤ i + 1). or_right (ltb (i + 1) (entries all)) (eqb (start_of all i + size_of all i) (length all)) (eq-eqb (start_of all i + size_of all i) (length all) (omega (arith, start, size, offset_next bs i h, offset_end bs (i + 1) l))))
-      (cases_lt (i + 1) (length bs))))))
+      let due = due_is i h in
+      let long = each i h in
+      let within = offset-within bs i h in
+      let next = offset_next bs i h in
+      let end = offset_end bs (i + 1) in
+      let count = entries_are in
+      grind (arith, nat_tests)
 
   body_is : (i : ℕ) → i < length bs → body_of all i ≡ get_or bs i []
   body_is i h =

@@ -1,20 +1,17 @@
 -- The bytes of a faultless catalogue are written again the same. Assumes nothing.
-use Rattle.std.proofs.Common.{◌≡◌, ℕ, zero, suc, ◌+◌, ◌*◌, ◌/◌, ◌%◌, ◌<◌, ◌≤◌, Bool, true, false, ◌&&◌, ◌||◌, eqb, ltb, leb, ◌⊎◌, List, [], ◌∷◌, ◌++◌, map, length, get_or, drop, Ok, Err, Result, sym, refl, ap, ◌∙◌, ap₂, inl, inr, ⊎_elim, add-one, arith, length-drop, drop-cons}
+use Rattle.std.proofs.Common.{◌≡◌, ℕ, zero, suc, ◌+◌, ◌*◌, ◌<◌, ◌≤◌, true, ◌⊎◌, List, [], ◌∷◌, ◌++◌, map, length, get_or, drop, Ok, Result, sym, refl, ap, ◌∙◌, ap₂, ⊎_elim, arith, length-drop, drop-cons}
 use lib.ListN.{length-map}
 use Rattle.std.specs.List.{range_with_len}
 use Rattle.std.proofs.lemmas.List.FromFn.{length-map-range_with_len, get_or-map-range_with_len}
-use Rattle.std.proofs.lemmas.List.{take-append-drop, drop-drop, drop_all, length-take-le}
-use Rattle.std.proofs.lemmas.Bool.{cond-true, cond-false, and_parts, or_cases, leb-true, ltb-true, eqb-true, false≢true}
+use Rattle.std.proofs.lemmas.List.{take-append-drop, drop-drop, drop_more, drop_all, length-take-le}
+use Rattle.std.proofs.lemmas.Bool.Decides.{nat_tests}
 use Rattle.shelf.specs.Axioms.{Axiom}
-use Rattle.catalogue.specs.Bodies.{and_then, to_axiom}
-use Rattle.catalogue.specs.Catalogues.{Bytes, word_at, entries, readable, line_byte, start_of, size_of, due_start, line_right, body_of, axiom_of, catalogue_list}
-use Rattle.shelf.specs.Faults.{at_byte}
+use Rattle.catalogue.specs.Bodies.{and_then, read_form, to_axiom}
+use Rattle.catalogue.specs.Catalogues.{Bytes, word_at, entries, readable, start_of, size_of, due_start, line_right, body_of, axiom_of, catalogue_list}
 use Rattle.shelf.specs.Shelves.{Entry, placed}
 use Rattle.std.specs.List.{concat}
 use Rattle.writer.specs.Writing.{two_bytes, body_bytes, entry_bytes, entry_bodies, lines_from, laid_out, catalogue_bytes, faultless}
 use Rattle.shelf.specs.declared.fault.ByteFault.{ByteFault}
-use Rattle.shelf.specs.declared.fault.Cause.TheVariants.{Line}
-use Rattle.shelf.specs.declared.form.Form.{Form}
 use Rattle.catalogue.specs.CatalogueLists.{readable_whole, readable-empty}
 use Rattle.writer.proofs.BodyRead.{body_writes}
 use Rattle.writer.proofs.Places.{body_at, axiom_at}
@@ -29,37 +26,25 @@ pub record Right (bs : List ℕ) (i : ℕ) : Type 0 where
   pub last : (i + 1 < entries bs) ⊎ (start_of bs i + size_of bs i ≡ length bs)
 
 right_parts : (bs : List ℕ) (i : ℕ) → line_right bs i ≡ true → Right bs i
-right_parts bs i h =
-    let p = and_parts (eqb (start_of bs i) (due_start bs i)) (leb 3 (size_of bs i) && (leb (size_of bs i) 67 && (leb (start_of bs i + size_of bs i) (length bs) && (ltb (i + 1) (entries bs) || eqb (start_of bs i + size_of bs i) (length bs))))) h in
-    let q = and_parts (leb 3 (size_of bs i)) (leb (size_of bs i) 67 && (leb (start_of bs i + size_of bs i) (length bs) && (ltb (i + 1) (entries bs) || eqb (start_of bs i + size_of bs i) (length bs)))) p.1 in
-    let r = and_parts (leb (size_of bs i) 67) (leb (start_of bs i + size_of bs i) (length bs) && (ltb (i + 1) (entries bs) || eqb (start_of bs i + size_of bs i) (length bs))) q.1 in
-    let s = and_parts (leb (start_of bs i + size_of bs i) (length bs)) (ltb (i + 1) (entries bs) || eqb (start_of bs i + size_of bs i) (length bs)) r.1 in
-    record {
-      start = eqb-true _ _ p.0;
-      least = leb-true _ _ q.0;
-      most = leb-true _ _ r.0;
-      ends = leb-true _ _ s.0;
-      last = ⊎_elim (λ e. inl (ltb-true _ _ e)) (λ e. inr (eqb-true _ _ e)) (or_cases (ltb (i + 1) (entries bs)) (eqb (start_of bs i + size_of bs i) (length bs)) s.1);
-    }
+right_parts bs i h = record {
+  start = grind (arith, nat_tests);
+  least = grind (arith, nat_tests);
+  most = grind (arith, nat_tests);
+  ends = grind (arith, nat_tests);
+  last = grind (arith, nat_tests);
+}
 
 two_again : (a b : ℕ) → b < 256 → two_bytes (256 * a + b) ≡ a ∷ b ∷ []
-two_again a b h = ap₂ (λ (x y : ℕ). x ∷ y ∷ []) (high a b h) (low a b h)
-  where
-    high : (a b : ℕ) → b < 256 → (256 * a + b) / 256 ≡ a
-    high a b h = omega arith
-
-    low : (a b : ℕ) → b < 256 → (256 * a + b) % 256 ≡ b
-    low a b h = omega arith
+two_again a b h = ap₂ (λ (x y : ℕ). x ∷ y ∷ []) (omega arith) (omega arith)
 
 module _ (bytes : List ℕ) (small : Bytes bytes) where
   -- two bytes are the two-byte number that they hold
   two_drop : (k : ℕ) → k + 2 ≤ length bytes → drop k bytes ≡ two_bytes (word_at bytes k) ++ drop (k + 2) bytes
   two_drop k h =
-      drop-cons bytes k 0 (omega arith) ∙ ap (λ (xs : List ℕ). get_or bytes k 0 ∷ xs) (ap (λ (n : ℕ). drop n bytes) (sym (add-one k)) ∙ drop-cons bytes (k + 1) 0 (omega arith))
-      ∙ ap₂ (λ (xs ys : List ℕ). xs ++ ys) (sym (two_again (get_or bytes k 0) (get_or bytes (k + 1) 0) (small (k + 1)))) (ap (λ (n : ℕ). drop n bytes) (next k))
-    where
-      next : (k : ℕ) → suc (k + 1) ≡ k + 2
-      next k = omega arith
+      let first = drop_more bytes k 0 (omega arith) in
+      let second = drop_more bytes (k + 1) 0 (omega arith) in
+      let two = two_again (get_or bytes k 0) (get_or bytes (k + 1) 0) (small (k + 1)) in
+      rw (first, second) (ap₂ (λ (xs ys : List ℕ). xs ++ ys) (sym two) (ap (λ (n : ℕ). drop n bytes) (omega arith)))
 
   module _ (read : readable bytes ≡ true) (bs : List (List ℕ)) (counted : length bs ≡ entries bytes) (right : (i : ℕ) → i < entries bytes → Right bytes i) (body : (i : ℕ) → i < entries bytes → get_or bs i [] ≡ body_of bytes i) where
     size_is : (i : ℕ) → i < entries bytes → length (get_or bs i []) ≡ size_of bytes i
@@ -84,23 +69,16 @@ module _ (bytes : List ℕ) (small : Bytes bytes) where
         let h : i < entries bytes = omega arith in
         let r = right i h in
         let later = from j (suc i) (omega arith) in
-        let b = get_or bs i [] in
-        let split : drop i bs ≡ b ∷ drop (suc i) bs = drop-cons bs i [] (omega arith) in
-        let whole = readable_whole bytes read in (
-          ap (λ (xs : List (List ℕ)). lines_from (due_start bytes i) xs ++ drop (2 + 4 * entries bytes) bytes) split
-              ∙ ap₂ (λ (a n : ℕ). two_bytes a ++ (two_bytes n ++ (lines_from (a + n) (drop (suc i) bs) ++ drop (2 + 4 * entries bytes) bytes))) (sym r.start) (size_is i h)
-              ∙ ap (λ (xs : List ℕ). two_bytes (start_of bytes i) ++ (two_bytes (size_of bytes i) ++ xs)) later.0
-              ∙ ap (λ (n : ℕ). two_bytes (start_of bytes i) ++ (two_bytes (size_of bytes i) ++ drop n bytes)) (four i)
-              ∙ ap (λ (xs : List ℕ). two_bytes (start_of bytes i) ++ xs) (sym (two_drop (2 + 4 * i + 2) (omega arith)))
-              ∙ sym (two_drop (2 + 4 * i) (omega arith)),
-          ap concat split ∙ ap₂ (λ (xs ys : List ℕ). xs ++ ys) (body i h) later.1
-              ∙ ap (λ (xs : List ℕ). body_of bytes i ++ xs) (sym (drop-drop (size_of bytes i) (start_of bytes i) bytes))
-              ∙ take-append-drop (size_of bytes i) (drop (start_of bytes i) bytes)
-              ∙ ap (λ (n : ℕ). drop n bytes) r.start,
-        )
-      where
-        four : (i : ℕ) → 2 + 4 * suc i ≡ 2 + 4 * i + 2 + 2
-        four i = omega arith
+        let split = drop-cons bs i [] (omega arith) in
+        let size = size_is i h in
+        let is_body = body i h in
+        let whole = readable_whole bytes read in
+        let line = two_drop (2 + 4 * i) (omega arith) in
+        let rest = two_drop (2 + 4 * i + 2) (omega arith) in
+        let ends = take-append-drop (size_of bytes i) (drop (start_of bytes i) bytes) in
+        let next = drop-drop (size_of bytes i) (start_of bytes i) bytes in
+        let four : 2 + 4 * suc i ≡ 2 + 4 * i + 2 + 2 = omega arith in
+        (grind (arith, r.start), grind (arith, r.start))
 
     pub laid_again : laid_out bs ≡ bytes
     laid_again =
@@ -112,34 +90,31 @@ module _ (bytes : List ℕ) (small : Bytes bytes) where
 
 -- a shelf's place of a catalogue holds what was read there
 placed_ok : (m p : ℕ) (r : Result Axiom ByteFault) (a : Axiom) → placed m p r ≡ Ok a → r ≡ Ok a
-placed_ok m p (Ok b) a h = let same : b ≡ a = cc in ap Ok same
-placed_ok m p (Err e) a h = let z : ◌≡◌ {A = ℕ} 0 1 = cc in absurd (omega arith)
+placed_ok m p r a h = grind arith
+
+-- a list of three bytes or more, byte by byte
+three : (xs : List ℕ) → 3 ≤ length xs → xs ≡ get_or xs 0 0 ∷ get_or xs 1 0 ∷ get_or xs 2 0 ∷ drop 3 xs
+three [] h = absurd (omega arith)
+three (a ∷ []) h = absurd (omega arith)
+three (a ∷ b ∷ []) h = absurd (omega arith)
+three (a ∷ b ∷ c ∷ xs) h = refl
+
+-- an entry that is an axiom has a line that is right, and its body reads as that axiom
+right_reads : (bytes : List ℕ) (i : ℕ) (a : Axiom) → axiom_of bytes i ≡ Ok a → (line_right bytes i ≡ true) × (and_then (read_form (start_of bytes i) (body_of bytes i)) (to_axiom (start_of bytes i)) ≡ Ok a)
+right_reads bytes i a h = grind arith
 
 -- an entry that is an axiom has a line that is right, and its body is that axiom's
 entry_right : (bytes : List ℕ) (i : ℕ) (a : Axiom) → axiom_of bytes i ≡ Ok a → Right bytes i × (body_bytes a ≡ body_of bytes i)
-entry_right bytes i a h = go (line_right bytes i) refl
-  where
-    go : (b : Bool) → line_right bytes i ≡ b → Right bytes i × (body_bytes a ≡ body_of bytes i)
-    go false e = let none : Err (at_byte Line (line_byte i)) ≡ Ok a = sym (ap (λ (f : Result (Form (List ℕ)) ByteFault). and_then f (to_axiom (start_of bytes i))) (cond-false (line_right bytes i) _ _ e)) ∙ h in let z : ◌≡◌ {A = ℕ} 0 1 = cc in absurd (omega arith)
-    go true e =
-        let r = right_parts bytes i e in
-        let body = body_of bytes i in
-        let long : 3 ≤ length body = omega (arith, length-take-le (size_of bytes i) (drop (start_of bytes i) bytes) (omega (arith, length-drop (start_of bytes i) bytes, r.ends)), r.least) in
-        (r, body_writes (start_of bytes i) (get_or body 0 0) (get_or body 1 0) (get_or body 2 0) (drop 3 body) a (sym (ap (λ (f : Result (Form (List ℕ)) ByteFault). and_then f (to_axiom (start_of bytes i))) (cond-true (line_right bytes i) _ _ e)) ∙ h) ∙ sym (three body long))
-      where
-        three : (xs : List ℕ) → 3 ≤ length xs → xs ≡ get_or xs 0 0 ∷ get_or xs 1 0 ∷ get_or xs 2 0 ∷ drop 3 xs
-        three [] h = absurd (omega arith)
-        three (a ∷ []) h = absurd (omega arith)
-        three (a ∷ b ∷ []) h = absurd (omega arith)
-        three (a ∷ b ∷ c ∷ xs) h = refl
+entry_right bytes i a h =
+    let read = right_reads bytes i a h in
+    let r = right_parts bytes i read.0 in
+    let body = body_of bytes i in
+    let long : 3 ≤ length body = omega (arith, length-take-le (size_of bytes i) (drop (start_of bytes i) bytes) (omega (arith, length-drop (start_of bytes i) bytes, r.ends)), r.least) in
+    (r, body_writes (start_of bytes i) (get_or body 0 0) (get_or body 1 0) (get_or body 2 0) (drop 3 body) a read.1 ∙ sym (three body long))
 
 -- a catalogue with a faulty count or contents is no faultless list
 faultless-readable : (bytes : List ℕ) (m : ℕ) → faultless (catalogue_list bytes m) ≡ true → readable bytes ≡ true
-faultless-readable bytes m f = go (readable bytes) refl
-  where
-    go : (b : Bool) → readable bytes ≡ b → readable bytes ≡ true
-    go true e = e
-    go false e = absurd (false≢true (ap faultless (sym (cond-false (readable bytes) _ _ e)) ∙ f))
+faultless-readable bytes m f = grind arith
 
 -- the bytes of a faultless catalogue are written again the same
 pub written_again : (bytes : List ℕ) (m : ℕ) → Bytes bytes → faultless (catalogue_list bytes m) ≡ true → catalogue_bytes (catalogue_list bytes m) ≡ bytes
