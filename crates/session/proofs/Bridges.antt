@@ -14,10 +14,10 @@ use Rattle.calculus.specs.States.{State, filler_set, target}
 use Rattle.calculus.specs.declared.state.Context.{Context}
 use Rattle.calculus.specs.declared.state.Finding.TheVariants.{Held, Void, Needed}
 use Rattle.calculus.specs.declared.state.Need.{Need}
-use Rattle.session.specs.Scans.{Found, on_some, on_some_place, at_axiom, more_role, edge_applies, at_edge, pair_opens, pair_result, at_pair, with_others, by_axiom, by_need, by_edge, by_pair, by_rule}
+use Rattle.session.specs.Scans.{Found, on_some, on_some_place, at_axiom, more_role, edge_applies, at_edge, pair_opens, pair_result, at_pair, with_others, by_axiom, by_need, by_edge, by_rule}
 use Rattle.session.specs.Taking.{or_else}
 use Rattle.session.specs.declared.session.rules.AxiomRule.TheVariants.{Under as RuleUnder, Nothing as RuleNothing, Exists as RuleExists}
-use Rattle.session.specs.declared.session.rules.EdgeRule.TheVariants.{RoleUnder as EdgeRoleUnder, OnlyDown, OnlyUp}
+use Rattle.session.specs.declared.session.rules.EdgeRule.TheVariants.{RoleUnder as EdgeRoleUnder, OnlyDown, OnlyUp, WithOthers}
 use Rattle.session.specs.declared.session.rules.NeedRule.TheVariants.{Target, VoidTarget}
 use Rattle.session.specs.declared.session.rules.PairRule.{PairRule}
 use Rattle.session.specs.declared.session.rules.PairRule.TheVariants.{Unite, BackTerms, BackRoles}
@@ -190,7 +190,7 @@ module _ (s : State TermSet) where
   at_9 i c (AtMostOne l r f) = when_same (term_covers c.held l) _ _ (need_same i _ _ (λ j d. unite_same (has_role words d.roles r) (target words s d) (λ e. term_covers e.held (filler_set words f)) i _ (λ k. each_need words s k (λ n o. at_pair Unite s i (AtMostOne l r f) d o)) (need_same i _ _ (λ k o. others Unite i l r f d o))))
   at_9 i c (RoleUnder r q) = refl
 
-  is_9 : search_9 words s ≡ by_pair Unite s
+  is_9 : search_9 words s ≡ by_edge (WithOthers Unite) s
   unfolding search_9
   is_9 = live_same _ _ (λ i c. axiom_same _ _ (λ a x. at_9 i c x))
 
@@ -203,7 +203,7 @@ module _ (s : State TermSet) where
   at_10 i c (AtMostOne l r f) = when_same (term_covers c.held (filler_set words f)) _ _ (need_same i _ _ (λ j d. back_same (has_role words d.roles (turn r)) (target words s d) (λ e. term_covers e.held l) (λ k. each_need words s k (λ n o. when (has words s o r) (λ _. given (target words s o) (λ g. when (filled words s f g.1) (λ _. missing words s (pair_result BackTerms i d o)))))) (λ k. each_need words s k (λ n o. at_pair BackTerms s i (AtMostOne l r f) d o)) (λ k. need_same k _ _ (λ n o. others BackTerms i l r f d o))))
   at_10 i c (RoleUnder r q) = refl
 
-  is_10 : search_10 words s ≡ by_pair BackTerms s
+  is_10 : search_10 words s ≡ by_edge (WithOthers BackTerms) s
   unfolding search_10
   is_10 = live_same _ _ (λ i c. axiom_same _ _ (λ a x. at_10 i c x))
 
@@ -216,7 +216,7 @@ module _ (s : State TermSet) where
   at_11 i c (AtMostOne l r f) = when_same (term_covers c.held (filler_set words f)) _ _ (need_same i _ _ (λ j d. back_same (has_role words d.roles (turn r)) (target words s d) (λ e. term_covers e.held l) (λ k. each_need words s k (λ n o. when (has words s o r) (λ _. given (target words s o) (λ g. when (filled words s f g.1) (λ _. missing words s (pair_result BackRoles i d o)))))) (λ k. each_need words s k (λ n o. at_pair BackRoles s i (AtMostOne l r f) d o)) (λ k. need_same k _ _ (λ n o. others BackRoles i l r f d o))))
   at_11 i c (RoleUnder r q) = refl
 
-  is_11 : search_11 words s ≡ by_pair BackRoles s
+  is_11 : search_11 words s ≡ by_edge (WithOthers BackRoles) s
   unfolding search_11
   is_11 = live_same _ _ (λ i c. axiom_same _ _ (λ a x. at_11 i c x))
 

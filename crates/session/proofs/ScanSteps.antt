@@ -6,7 +6,7 @@ use Rattle.calculus.specs.Search.{first, when}
 use Rattle.calculus.specs.States.{State}
 use Rattle.calculus.specs.declared.state.Context.{Context}
 use Rattle.calculus.specs.declared.state.Need.{Need}
-use Rattle.session.specs.Scans.{Found, at_axiom, at_need, edge_applies, at_edge, pair_opens, with_others, at_pair}
+use Rattle.session.specs.Scans.{Found, at_axiom, at_need, edge_applies, at_edge, at_pair}
 use Rattle.session.specs.declared.session.rules.AxiomRule.{AxiomRule}
 use Rattle.session.specs.declared.session.rules.EdgeRule.{EdgeRule}
 use Rattle.session.specs.declared.session.rules.NeedRule.{NeedRule}
@@ -44,12 +44,3 @@ module _ (s : State TermSet) where
 
   abbrev pub pair_other : PairRule → ℕ → Axiom → Need TermSet → ℕ → ℕ → Need TermSet → Found
   pair_other rule i x d k = need_step k (λ n f. at_pair rule s i x d f)
-
-  abbrev pub pair_need : PairRule → ℕ → Axiom → ℕ → Need TermSet → Found
-  pair_need rule i x = need_step i (λ j d. with_others rule s i x d)
-
-  abbrev pub pair_axiom : PairRule → ℕ → Context TermSet → ℕ → Axiom → Found
-  pair_axiom rule i c a x = when (pair_opens rule c x) (λ _. first 0 s.needs (pair_need rule i x))
-
-  abbrev pub pair_context : PairRule → ℕ → Context TermSet → Found
-  pair_context rule = live_step (λ i c. first 0 s.axioms (pair_axiom rule i c))

@@ -18,13 +18,13 @@ use Rattle.calculus.specs.declared.state.Need.{Need}
 use Rattle.session.specs.declared.session.rules.AxiomRule.{AxiomRule}
 use Rattle.session.specs.declared.session.rules.AxiomRule.TheVariants.{Under as RuleUnder, Nothing as RuleNothing, Exists as RuleExists}
 use Rattle.session.specs.declared.session.rules.EdgeRule.{EdgeRule}
-use Rattle.session.specs.declared.session.rules.EdgeRule.TheVariants.{RoleUnder as EdgeRoleUnder, OnlyDown, OnlyUp}
+use Rattle.session.specs.declared.session.rules.EdgeRule.TheVariants.{RoleUnder as EdgeRoleUnder, OnlyDown, OnlyUp, WithOthers}
 use Rattle.session.specs.declared.session.rules.NeedRule.{NeedRule}
 use Rattle.session.specs.declared.session.rules.NeedRule.TheVariants.{Target, VoidTarget}
 use Rattle.session.specs.declared.session.rules.PairRule.{PairRule}
 use Rattle.session.specs.declared.session.rules.PairRule.TheVariants.{Unite, BackTerms, BackRoles}
 use Rattle.session.specs.declared.session.rules.Rule.{Rule}
-use Rattle.session.specs.declared.session.rules.Rule.TheVariants.{Axiom as AxiomKind, Need as NeedKind, Edge as EdgeKind, Pair as PairKind}
+use Rattle.session.specs.declared.session.rules.Rule.TheVariants.{Axiom as AxiomKind, Need as NeedKind, Edge as EdgeKind}
 use Rattle.session.specs.Taking.{or_else}
 
 abbrev pub Found : Type 0
@@ -64,50 +64,6 @@ on_some_place (Some x) f = f x
 abbrev pub at_need : NeedRule → State TermSet → ℕ → Need TermSet → Found
 at_need Target s i d = missing words s (Fresh d.terms)
 at_need VoidTarget s i d = on_some (target words s d) (λ e. cond e.1.void (missing words s (Void i)) None)
-
--- rules 5, 7 and 8: to which contexts and axioms they apply, and what they give at a need
-abbrev pub more_role : State TermSet → Need TermSet → DirectedRole → DirectedRole → Found
-more_role s d r q = cond (has_role words d.roles r) (missing words s (Needed (with_roles words d (one_role words q)))) None
-
-abbrev pub edge_applies : EdgeRule → Context TermSet → Axiom → Bool
-edge_applies EdgeRoleUnder c (Under l t) = false
-edge_applies EdgeRoleUnder c (Nothing l) = false
-edge_applies EdgeRoleUnder c (Exists l r f) = false
-edge_applies EdgeRoleUnder c (Only l r t) = false
-edge_applies EdgeRoleUnder c (AtMostOne l r f) = false
-edge_applies EdgeRoleUnder c (RoleUnder r q) = true
-edge_applies OnlyDown c (Under l t) = false
-edge_applies OnlyDown c (Nothing l) = false
-edge_applies OnlyDown c (Exists l r f) = false
-edge_applies OnlyDown c (Only l r t) = term_covers c.held l
-edge_applies OnlyDown c (AtMostOne l r f) = false
-edge_applies OnlyDown c (RoleUnder r q) = false
-edge_applies OnlyUp c (Under l t) = false
-edge_applies OnlyUp c (Nothing l) = false
-edge_applies OnlyUp c (Exists l r f) = false
-edge_applies OnlyUp c (Only l r t) = true
-edge_applies OnlyUp c (AtMostOne l r f) = false
-edge_applies OnlyUp c (RoleUnder r q) = false
-
-abbrev pub at_edge : EdgeRule → State TermSet → ℕ → Axiom → Need TermSet → Found
-at_edge EdgeRoleUnder s i (Under l t) d = None
-at_edge EdgeRoleUnder s i (Nothing l) d = None
-at_edge EdgeRoleUnder s i (Exists l r f) d = None
-at_edge EdgeRoleUnder s i (Only l r t) d = None
-at_edge EdgeRoleUnder s i (AtMostOne l r f) d = None
-at_edge EdgeRoleUnder s i (RoleUnder r q) d = or_else (more_role s d r q) (more_role s d (turn r) (turn q))
-at_edge OnlyDown s i (Under l t) d = None
-at_edge OnlyDown s i (Nothing l) d = None
-at_edge OnlyDown s i (Exists l r f) d = None
-at_edge OnlyDown s i (Only l r t) d = cond (has_role words d.roles r) (missing words s (Needed (with_terms words d (term_single t.0)))) None
-at_edge OnlyDown s i (AtMostOne l r f) d = None
-at_edge OnlyDown s i (RoleUnder r q) d = None
-at_edge OnlyUp s i (Under l t) d = None
-at_edge OnlyUp s i (Nothing l) d = None
-at_edge OnlyUp s i (Exists l r f) d = None
-at_edge OnlyUp s i (Only l r t) d = cond (has_role words d.roles (turn r)) (on_some (target words s d) (λ e. cond (term_covers e.1.held l) (missing words s (Held i (term_single t.0))) None)) None
-at_edge OnlyUp s i (AtMostOne l r f) d = None
-at_edge OnlyUp s i (RoleUnder r q) d = None
 
 -- rules 9, 10 and 11: the contexts and axioms that they open with, the context to which the second need belongs, and the
 -- result for two needs
@@ -170,7 +126,57 @@ at_pair rule s i (Only l r t) d o = None
 at_pair rule s i (AtMostOne l r f) d o = cond (has_role words o.roles r) (on_some (target words s o) (λ g. cond (term_covers g.1.held (filler_set words f)) (missing words s (pair_result rule i d o)) None)) None
 at_pair rule s i (RoleUnder r q) d o = None
 
--- the four ways in which the search goes through the tables
+-- what a rule for two needs gives at the first one
+abbrev pub with_others : PairRule → State TermSet → ℕ → Axiom → Need TermSet → Found
+with_others rule s i x d = given (onward rule s i x d) (λ k. each_need words s k (λ n f. at_pair rule s i x d f))
+
+-- rules 5, 7 and 8, and those for two needs: to which contexts and axioms they apply, and what they give at a need
+abbrev pub more_role : State TermSet → Need TermSet → DirectedRole → DirectedRole → Found
+more_role s d r q = cond (has_role words d.roles r) (missing words s (Needed (with_roles words d (one_role words q)))) None
+
+abbrev pub edge_applies : EdgeRule → Context TermSet → Axiom → Bool
+edge_applies EdgeRoleUnder c (Under l t) = false
+edge_applies EdgeRoleUnder c (Nothing l) = false
+edge_applies EdgeRoleUnder c (Exists l r f) = false
+edge_applies EdgeRoleUnder c (Only l r t) = false
+edge_applies EdgeRoleUnder c (AtMostOne l r f) = false
+edge_applies EdgeRoleUnder c (RoleUnder r q) = true
+edge_applies OnlyDown c (Under l t) = false
+edge_applies OnlyDown c (Nothing l) = false
+edge_applies OnlyDown c (Exists l r f) = false
+edge_applies OnlyDown c (Only l r t) = term_covers c.held l
+edge_applies OnlyDown c (AtMostOne l r f) = false
+edge_applies OnlyDown c (RoleUnder r q) = false
+edge_applies OnlyUp c (Under l t) = false
+edge_applies OnlyUp c (Nothing l) = false
+edge_applies OnlyUp c (Exists l r f) = false
+edge_applies OnlyUp c (Only l r t) = true
+edge_applies OnlyUp c (AtMostOne l r f) = false
+edge_applies OnlyUp c (RoleUnder r q) = false
+edge_applies (WithOthers rule) c x = pair_opens rule c x
+
+abbrev pub at_edge : EdgeRule → State TermSet → ℕ → Axiom → Need TermSet → Found
+at_edge EdgeRoleUnder s i (Under l t) d = None
+at_edge EdgeRoleUnder s i (Nothing l) d = None
+at_edge EdgeRoleUnder s i (Exists l r f) d = None
+at_edge EdgeRoleUnder s i (Only l r t) d = None
+at_edge EdgeRoleUnder s i (AtMostOne l r f) d = None
+at_edge EdgeRoleUnder s i (RoleUnder r q) d = or_else (more_role s d r q) (more_role s d (turn r) (turn q))
+at_edge OnlyDown s i (Under l t) d = None
+at_edge OnlyDown s i (Nothing l) d = None
+at_edge OnlyDown s i (Exists l r f) d = None
+at_edge OnlyDown s i (Only l r t) d = cond (has_role words d.roles r) (missing words s (Needed (with_terms words d (term_single t.0)))) None
+at_edge OnlyDown s i (AtMostOne l r f) d = None
+at_edge OnlyDown s i (RoleUnder r q) d = None
+at_edge OnlyUp s i (Under l t) d = None
+at_edge OnlyUp s i (Nothing l) d = None
+at_edge OnlyUp s i (Exists l r f) d = None
+at_edge OnlyUp s i (Only l r t) d = cond (has_role words d.roles (turn r)) (on_some (target words s d) (λ e. cond (term_covers e.1.held l) (missing words s (Held i (term_single t.0))) None)) None
+at_edge OnlyUp s i (AtMostOne l r f) d = None
+at_edge OnlyUp s i (RoleUnder r q) d = None
+at_edge (WithOthers rule) s i x d = with_others rule s i x d
+
+-- the ways in which the search goes through the tables
 abbrev pub by_axiom : AxiomRule → State TermSet → Found
 by_axiom rule s = each_live words s (λ i c. each_axiom words s (λ a x. at_axiom rule s i c x))
 
@@ -180,14 +186,7 @@ by_need rule s = each_live words s (λ i c. each_need words s i (λ j d. at_need
 abbrev pub by_edge : EdgeRule → State TermSet → Found
 by_edge rule s = each_live words s (λ i c. each_axiom words s (λ a x. when (edge_applies rule c x) (λ _. each_need words s i (λ j d. at_edge rule s i x d))))
 
-abbrev pub with_others : PairRule → State TermSet → ℕ → Axiom → Need TermSet → Found
-with_others rule s i x d = given (onward rule s i x d) (λ k. each_need words s k (λ n f. at_pair rule s i x d f))
-
-abbrev pub by_pair : PairRule → State TermSet → Found
-by_pair rule s = each_live words s (λ i c. each_axiom words s (λ a x. when (pair_opens rule c x) (λ _. each_need words s i (λ j d. with_others rule s i x d))))
-
 abbrev pub by_rule : Rule → State TermSet → Found
 by_rule (AxiomKind rule) s = by_axiom rule s
 by_rule (NeedKind rule) s = by_need rule s
 by_rule (EdgeKind rule) s = by_edge rule s
-by_rule (PairKind rule) s = by_pair rule s

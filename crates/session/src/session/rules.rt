@@ -36,16 +36,6 @@ pub(super) enum NeedRule {
 }
 
 #[derive(Clone, Copy)]
-pub(super) enum EdgeRule {
-    // the need has the upper role too
-    RoleUnder,
-    // the need has the term too
-    OnlyDown,
-    // the term joins the held terms
-    OnlyUp,
-}
-
-#[derive(Clone, Copy)]
 pub(super) enum PairRule {
     // both needs made one
     Unite,
@@ -55,13 +45,24 @@ pub(super) enum PairRule {
     BackRoles,
 }
 
+#[derive(Clone, Copy)]
+pub(super) enum EdgeRule {
+    // the need has the upper role too
+    RoleUnder,
+    // the need has the term too
+    OnlyDown,
+    // the term joins the held terms
+    OnlyUp,
+    // what a second need adds
+    WithOthers(PairRule),
+}
+
 // A rule, by what it looks at.
 #[derive(Clone, Copy)]
 pub(super) enum Rule {
     Axiom(AxiomRule),
     Need(NeedRule),
     Edge(EdgeRule),
-    Pair(PairRule),
 }
 
 // All rules, in the order in which the search tries them.
@@ -74,9 +75,9 @@ pub(super) const RULES: [Rule; 11] = [
     Rule::Need(NeedRule::VoidTarget),
     Rule::Edge(EdgeRule::OnlyDown),
     Rule::Edge(EdgeRule::OnlyUp),
-    Rule::Pair(PairRule::Unite),
-    Rule::Pair(PairRule::BackTerms),
-    Rule::Pair(PairRule::BackRoles),
+    Rule::Edge(EdgeRule::WithOthers(PairRule::Unite)),
+    Rule::Edge(EdgeRule::WithOthers(PairRule::BackTerms)),
+    Rule::Edge(EdgeRule::WithOthers(PairRule::BackRoles)),
 ];
 
 impl<'a> Session<'a> {
@@ -180,9 +181,8 @@ impl<'a> Session<'a> {
         }
         self.missing(Finding::Needed {
             need: Need {
-                context: need.context,
                 roles: need.roles.with(more),
-                terms: need.terms,
+                ..*need
             },
         })
     }
@@ -208,9 +208,8 @@ impl<'a> Session<'a> {
             (EdgeRule::OnlyDown, Form::Only { role, term, .. }) if need.roles.contains(role) =>
                 self.missing(Finding::Needed {
                     need: Need {
-                        context: need.context,
-                        roles: need.roles,
                         terms: need.terms.with(term),
+                        ..*need
                     },
                 }),
             (EdgeRule::OnlyUp, Form::Only { left, role, term })
@@ -221,6 +220,7 @@ impl<'a> Session<'a> {
                 }),
                 _ => None,
             },
+            (EdgeRule::WithOthers(rule), _) => self.with_others(rule, place, axiom, need),
             _ => None,
         }
     }
@@ -288,12 +288,13 @@ pub(super) fn applies(rule: EdgeRule, context: &Context<TermSet>, axiom: &Axiom)
         (EdgeRule::RoleUnder, Form::RoleUnder { .. }) => true,
         (EdgeRule::OnlyDown, Form::Only { left, .. }) => context.held.includes(left),
         (EdgeRule::OnlyUp, Form::Only { .. }) => true,
+        (EdgeRule::WithOthers(rule), _) => opens(rule, context, axiom),
         _ => false,
     }
 }
 
 // Whether a rule opens with a context and an axiom.
-pub(super) fn opens(rule: PairRule, context: &Context<TermSet>, axiom: &Axiom) -> bool
+fn opens(rule: PairRule, context: &Context<TermSet>, axiom: &Axiom) -> bool
     ensures { result ≡ pair_opens rule context.now «axiom».now }
 {
     match (rule, *axiom) {
@@ -315,9 +316,9 @@ fn pair_result(
     match rule {
         PairRule::Unite => Finding::Needed {
             need: Need {
-                context: need.context,
                 roles: need.roles.union(other.roles),
                 terms: need.terms.union(other.terms),
+                ..*need
             },
         },
         PairRule::BackTerms => Finding::Held {
@@ -326,9 +327,8 @@ fn pair_result(
         },
         PairRule::BackRoles => Finding::Needed {
             need: Need {
-                context: need.context,
                 roles: need.roles.union(other.roles.turned()),
-                terms: need.terms,
+                ..*need
             },
         },
     }

@@ -2,10 +2,10 @@
 ghost use Rattle.std.specs.Prelude.{◌≡◌};
 ghost use Rattle.calculus.specs.Makes.{words};
 ghost use Rattle.calculus.specs.Search.{first_missing};
-ghost use Rattle.session.specs.Scans.{by_axiom, by_need, by_edge, with_others, by_pair, by_rule};
+ghost use Rattle.session.specs.Scans.{by_axiom, by_need, by_edge, with_others, by_rule};
 
 use super::Session;
-use super::rules::{AxiomRule, EdgeRule, NeedRule, PairRule, RULES, Rule, applies, opens};
+use super::rules::{AxiomRule, EdgeRule, NeedRule, PairRule, RULES, Rule, applies};
 use calculus::state::{Finding, Need};
 use numbers::term_set::TermSet;
 use shelf::form::Axiom;
@@ -83,36 +83,8 @@ impl<'a> Session<'a> {
         found
     }
 
-    // The first missing result of a rule over contexts, axioms and two needs.
-    fn by_pair(&self, rule: PairRule) -> Option<Finding<TermSet>>
-        ensures { result ≡ by_pair rule self.now }
-    {
-        let mut found = None;
-        'search: for (i, context) in self.contexts.all().iter().enumerate() {
-            if context.void {
-                continue;
-            }
-            let place = i as u16;
-            for axiom in self.axioms.all() {
-                if !opens(rule, context, axiom) {
-                    continue;
-                }
-                for need in self.needs.all() {
-                    if need.context != place {
-                        continue;
-                    }
-                    found = self.with_others(rule, place, axiom, need);
-                    if found.is_some() {
-                        break 'search;
-                    }
-                }
-            }
-        }
-        found
-    }
-
     // The first missing result of a rule at one need, over a second one.
-    fn with_others(
+    pub(super) fn with_others(
         &self,
         rule: PairRule,
         place: u16,
@@ -144,7 +116,6 @@ impl<'a> Session<'a> {
             Rule::Axiom(rule) => self.by_axiom(rule),
             Rule::Need(rule) => self.by_need(rule),
             Rule::Edge(rule) => self.by_edge(rule),
-            Rule::Pair(rule) => self.by_pair(rule),
         }
     }
 
