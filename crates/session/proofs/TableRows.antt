@@ -1,5 +1,5 @@
 -- What is found in the rows of a table, and how rows are put and changed. Assumes nothing.
-use Rattle.std.proofs.Common.{◌≡◌, ℕ, zero, suc, ◌+◌, ◌<◌, ◌≤◌, Bool, true, false, cond, List, [], ◌∷◌, ◌++◌, length, take, get_or, set, is_some, Some, None, Option, sym, refl, ap, ◌∙◌, ◌||◌, subst, add-one, arith}
+use Rattle.std.proofs.Common.{◌≡◌, ℕ, zero, suc, ◌+◌, ◌<◌, Bool, true, false, cond, List, [], ◌∷◌, ◌++◌, length, take, get_or, set, is_some, Some, None, Option, sym, refl, ap, ◌∙◌, ◌||◌, subst, add-one, arith}
 use Rattle.std.specs.List.{slice_get, list_any, position, position_from}
 use Rattle.std.proofs.lemmas.List.Quantifiers.{position-Some}
 use Rattle.std.proofs.lemmas.Option.{slice_get_read}

@@ -1,6 +1,6 @@
-// Reading a packet: why its entries are refused, and its axioms.
+// Reading a packet: whether its entries can be taken, and its axioms.
 ghost use Rattle.std.specs.Prelude.{◌≡◌, ◌+◌, ◌<◌, ◌≤◌, ◌++◌, length};
-ghost use Rattle.session.specs.Taking.{terms_to, entries_refusal, with_entry, axioms_of};
+ghost use Rattle.session.specs.Taking.{terms_to, entries_refusal, take_answer, with_entry, axioms_of};
 
 use crate::refusal::Refusal;
 use crate::table::Table;
@@ -9,17 +9,14 @@ use shelf::fault::Entry;
 use shelf::form::Axiom;
 use shelf::shelf::Shelf;
 
-// Why a packet is refused because of an entry.
-pub(crate) fn refusal<S: Shelf>(shelf: &S, vocabulary: Vocabulary) -> Option<Refusal>
-    ensures { result ≡ entries_refusal (terms_to vocabulary.terms) vocabulary.terms vocabulary.roles 1 (S.Shelf.list shelf.now) }
+// Whether all entries of a packet are axioms over the vocabulary.
+pub(crate) fn check<S: Shelf>(shelf: &S, vocabulary: Vocabulary) -> Result<(), Refusal>
+    ensures { result ≡ take_answer (entries_refusal (terms_to vocabulary.terms) vocabulary.terms vocabulary.roles 1 (S.Shelf.list shelf.now)) }
 {
     for (i, entry) in shelf.entries().enumerate() {
-        let refused = vocabulary.refuses(i as u16 + 1, entry);
-        if refused.is_some() {
-            return refused;
-        }
+        vocabulary.check(i as u16 + 1, entry)?;
     }
-    None
+    Ok(())
 }
 
 // Appends the axiom of an entry, if it is one.

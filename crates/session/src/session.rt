@@ -107,9 +107,7 @@ impl<'a> Session<'a> {
         ensures value { result ≡ take_answer (taking self.old (S.Shelf.list shelf.now)) }
         ensures state { self.new ≡ take_state self.old (taking self.old (S.Shelf.list shelf.now)) (S.Shelf.list shelf.now) }
     {
-        if let Some(refused) = packet::refusal(shelf, self.vocabulary) {
-            return Err(refused);
-        }
+        packet::check(shelf, self.vocabulary)?;
         let count = shelf.count();
         if self.axioms.len() as usize + count as usize > self.axioms.room() as usize {
             return Err(Refusal::NoAxiomPlace);
@@ -126,9 +124,7 @@ impl<'a> Session<'a> {
         ensures value { result ≡ want_answer self.old terms.now }
         ensures state { self.new ≡ want_state self.old terms.now }
     {
-        let Some(set) = self.vocabulary.set_of(terms) else {
-            return Err(Refusal::Term);
-        };
+        let set = self.vocabulary.set_of(terms).ok_or(Refusal::Term)?;
         match with_set(self.contexts.all(), set) {
             Some(i) => Ok(i as u16 + 1),
             None => self.store(set),

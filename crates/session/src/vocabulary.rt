@@ -2,7 +2,7 @@
 ghost use Rattle.std.specs.Prelude.{◌≡◌};
 ghost use Rattle.numbers.specs.Bits.{possible};
 ghost use Rattle.numbers.specs.Roles.{role_up_to};
-ghost use Rattle.session.specs.Taking.{terms_to, filler_used, axiom_used, entry_refusal};
+ghost use Rattle.session.specs.Taking.{terms_to, filler_used, axiom_used, entry_refusal, take_answer};
 ghost use Rattle.session.specs.Wanting.{set_of};
 
 use crate::refusal::Refusal;
@@ -75,14 +75,15 @@ impl Vocabulary {
         }
     }
 
-    // Why an entry at a place of a packet is refused.
-    pub(crate) fn refuses(self, place: u16, entry: Entry) -> Option<Refusal>
-        ensures { result ≡ entry_refusal (terms_to self.terms) self.terms self.roles place «entry» }
+    // Whether an entry at a place of a packet is an axiom that uses no others.
+    pub(crate) fn check(self, place: u16, entry: Entry) -> Result<(), Refusal>
+        ensures { result ≡ take_answer (entry_refusal (terms_to self.terms) self.terms self.roles place «entry») }
     {
-        match entry {
-            Err(fault) => Some(Refusal::from((fault, place))),
-            Ok(axiom) if self.has_axiom(axiom) => None,
-            Ok(_) => Some(Refusal::Unused { place }),
+        let axiom = entry.map_err(|fault| Refusal::from((fault, place)))?;
+        if self.has_axiom(axiom) {
+            Ok(())
+        } else {
+            Err(Refusal::Unused { place })
         }
     }
 

@@ -34,7 +34,7 @@ impl Stop {
 }
 
 impl<'a> Session<'a> {
-    // Why a result has no place, if so.
+    // Why a result has no place, if so. No `Result`, since `work` answers a stop beside its steps and no `?` goes through it.
     fn blocked(&self, finding: &Finding<TermSet>) -> Option<Stop>
         ensures { result ≡ blocked self.now finding.now }
     {

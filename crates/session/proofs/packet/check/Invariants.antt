@@ -2,7 +2,7 @@ use Rattle.std.proofs.Common.{◌≡◌, ◌+◌, length}
 use Rattle.std.specs.Iterator.Adapters.{enumerate_count, enumerate_source}
 use Rattle.shelf.specs.Coming.{entries_left}
 use Rattle.session.specs.Taking.{terms_to, entries_refusal}
-use Rattle.session.proofs.packet.refusal.Given as goal
+use Rattle.session.proofs.packet.check.Given as goal
 
 -- what is left decides
 abbrev pub invariant-loop-i : goal.invariant-loop-i
