@@ -1,10 +1,11 @@
 -- The lines of a listing, one entry more. Assumes nothing.
-use Rattle.std.proofs.Common.{◌≡◌, ℕ, suc, ◌+◌, ◌<◌, Bool, true, false, List, [], ◌∷◌, ◌++◌, length, get_or, take, is_err, Ok, Err, sym, refl, ap, ◌∙◌, ap₂, append_assoc, add-zero, arith}
-use Rattle.std.proofs.lemmas.List.{append-nil, take_more, length-take-le}
-use Rattle.std.proofs.lemmas.Bool.{true≢false, false≢true}
-use Rattle.shelf.specs.Shelves.{Entry}
-use Rattle.writer.specs.Writing.{faultless}
-use Rattle.inspect.specs.Listings.{line_text, lines_text, faults_in, counts_text, end_text, listing_text}
+use Rattle.std.specs.List.{range_with_len}
+use Rattle.std.proofs.Common.{is_err, map, filter, ◌≡◌, ℕ, zero, suc, ◌+◌, ◌-◌, ◌≤◌, List, [], ◌∷◌, ◌++◌, length, take, Ok, Err, sym, refl, ap, ◌∙◌, append_assoc, add-zero, add-one, arith}
+use Rattle.std.proofs.lemmas.List.{append-nil, take_more, length-take-le, get_or_default}
+use Rattle.std.proofs.lemmas.List.FromFn.{fill_by_all}
+use Rattle.shelf.specs.Shelves.{Entry, entry_at, byteless}
+use Rattle.shelf.specs.declared.fault.Cause.TheVariants.{Outside}
+use Rattle.inspect.specs.Listings.{line_text, lines_text, faults_in}
 
 lines_push : (p : ℕ) (es : List Entry) (e : Entry) → lines_text p (es ++ (e ∷ [])) ≡ lines_text p es ++ line_text (p + length es) e
 lines_push p [] e = append-nil (line_text p e) ∙ ap (λ (q : ℕ). line_text q e) (sym (add-zero p))
@@ -15,36 +16,30 @@ lines_push p (x ∷ es) e =
     on : (p n : ℕ) → suc p + n ≡ p + suc n
     on p n = omega arith
 
-faults_push : (es : List Entry) (e : Entry) → faults_in (es ++ (e ∷ [])) ≡ faults_in es + faults_in (e ∷ [])
-faults_push [] e = omega arith
-faults_push (Ok a ∷ es) e = faults_push es e
-faults_push (Err f ∷ es) e = omega (arith, faults_push es e)
+-- the entries before the place p
+abbrev pub before : List Entry → ℕ → List Entry
+before es p = take (p - 1) es
 
--- the line of the entry i comes after those before it
-pub lines_more : (es : List Entry) (i : ℕ) (d : Entry) → i < length es → lines_text 1 (take (i + 1) es) ≡ lines_text 1 (take i es) ++ line_text (i + 1) (get_or es i d)
-lines_more es i d h =
-    ap (lines_text 1) (take_more es i d h) ∙ lines_push 1 (take i es) (get_or es i d)
-    ∙ ap (λ (q : ℕ). lines_text 1 (take i es) ++ line_text q (get_or es i d)) (omega (arith, length-take-le i es (omega arith)))
+next : (es : List Entry) (m p : ℕ) → 1 ≤ p → p ≤ length es → before es (p + 1) ≡ before es p ++ (entry_at es m p ∷ [])
+next es m zero above within = absurd (omega arith)
+next es m (suc k) above within =
+    let up : suc k + 1 - 1 ≡ k + 1 = omega arith in
+    let down : suc k - 1 ≡ k = omega arith in
+    rw (up, down) (take_more es k (byteless m (suc k) Outside) (omega arith))
 
--- a fault is counted, an axiom is not
-pub fault_more : (es : List Entry) (i : ℕ) (d : Entry) → i < length es → is_err (get_or es i d) ≡ true → faults_in (take i es) + 1 ≡ faults_in (take (i + 1) es)
-fault_more es i d h e = one (get_or es i d) e ∙ sym (ap faults_in (take_more es i d h) ∙ faults_push (take i es) (get_or es i d))
-  where
-    one : (x : Entry) → is_err x ≡ true → faults_in (take i es) + 1 ≡ faults_in (take i es) + faults_in (x ∷ [])
-    one (Ok a) e = absurd (false≢true e)
-    one (Err f) e = refl
+-- the line of the entry at the place p comes after those before it
+pub lines_more : (es : List Entry) (m p : ℕ) (e : Entry) → e ≡ entry_at es m p → 1 ≤ p → p ≤ length es → lines_text 1 (before es p) ++ line_text p e ≡ lines_text 1 (before es (p + 1))
+lines_more es m p e asked above within =
+    rw asked (
+    sym (ap (lines_text 1) (next es m p above within) ∙ lines_push 1 (before es p) (entry_at es m p)
+    ∙ ap (λ (q : ℕ). lines_text 1 (before es p) ++ line_text q (entry_at es m p)) (omega (arith, length-take-le (p - 1) es (omega arith))))
+    )
 
-pub axiom_more : (es : List Entry) (i : ℕ) (d : Entry) → i < length es → is_err (get_or es i d) ≡ false → faults_in (take i es) ≡ faults_in (take (i + 1) es)
-axiom_more es i d h e = none (get_or es i d) e ∙ sym (ap faults_in (take_more es i d h) ∙ faults_push (take i es) (get_or es i d))
-  where
-    none : (x : Entry) → is_err x ≡ false → faults_in (take i es) ≡ faults_in (take i es) + faults_in (x ∷ [])
-    none (Ok a) e = sym (add-zero (faults_in (take i es)))
-    none (Err f) e = absurd (true≢false e)
+-- the entries at the places of a list are the list
+pub all_entries : (es : List Entry) (m : ℕ) → es ≡ map (λ i. entry_at es m (i + 1)) (range_with_len 0 (length es))
+all_entries es m = fill_by_all (λ i. entry_at es m (i + 1)) es (length es) (byteless m 0 Outside) refl (λ k h. rw add-one (get_or_default es k _ _ h))
 
--- a text to which the lines, the counts and the end were added is the listing
-pub whole_text : (es : List Entry) (t₀ t₁ t₂ t₃ : List ℕ) (n faults : ℕ) (again : Bool) → t₀ ≡ [] → t₁ ≡ t₀ ++ lines_text 1 es → t₂ ≡ t₁ ++ counts_text n faults → t₃ ≡ t₂ ++ end_text again
-    → n ≡ length es → faults ≡ faults_in es → again ≡ faultless es → t₃ ≡ listing_text es
-unfolding listing_text
-whole_text es t₀ t₁ t₂ t₃ n faults again a b c d p q r =
-    d ∙ ap₂ (λ (xs ys : List ℕ). xs ++ ys) (c ∙ ap₂ (λ (xs ys : List ℕ). xs ++ ys) (b ∙ ap (λ (xs : List ℕ). xs ++ lines_text 1 es) a) (ap₂ counts_text p q)) (ap end_text r)
-    ∙ append_assoc (lines_text 1 es) (counts_text (length es) (faults_in es)) (end_text (faultless es))
+pub count_errors : (es : List Entry) → length (filter (λ e. is_err e) es) ≡ faults_in es
+count_errors [] = refl
+count_errors (Ok a ∷ es) = count_errors es
+count_errors (Err f ∷ es) = ap suc (count_errors es)
