@@ -10,7 +10,7 @@ use shelf::form::{Axiom, Form};
 use std::alloc::{AllocError, Global};
 
 // The numbers of terms and roles, and the lengths of the three tables.
-#[derive(Clone, Copy)]
+#[derive(Clone, Copy, Default)]
 pub(crate) struct Opening {
     pub(crate) terms: u8,
     pub(crate) roles: u8,
@@ -28,32 +28,19 @@ pub(crate) struct Tables {
 }
 
 impl Opening {
-    // An opening without terms, roles and places.
-    pub(crate) fn nothing() -> Opening {
-        Opening {
-            terms: 0,
-            roles: 0,
-            axioms: 0,
-            contexts: 0,
-            needs: 0,
-        }
-    }
-
     // The opening that a line states: a word and five numbers.
     pub(crate) fn read(line: &str) -> Result<Opening, Unread> {
-        let Some(numbers) = line.strip_prefix("open ") else {
-            return Err(Unread::NotUnderstood);
-        };
+        let numbers = line.strip_prefix("open ").ok_or(Unread::NotUnderstood)?;
         let (terms, rest) = parted(numbers, " ")?;
         let (roles, lengths) = parted(rest, " ")?;
         let (axioms, rest) = parted(lengths, " ")?;
         let (contexts, needs) = parted(rest, " ")?;
         Ok(Opening {
-            terms: terms.parse::<u8>()?,
-            roles: roles.parse::<u8>()?,
-            axioms: axioms.parse::<usize>()?,
-            contexts: contexts.parse::<usize>()?,
-            needs: needs.parse::<usize>()?,
+            terms: terms.parse()?,
+            roles: roles.parse()?,
+            axioms: axioms.parse()?,
+            contexts: contexts.parse()?,
+            needs: needs.parse()?,
         })
     }
 
@@ -76,10 +63,7 @@ impl Opening {
             contexts,
             needs,
             ..
-        } = match self.check() {
-            Ok(()) => self,
-            Err(_) => Opening::nothing(),
-        };
+        } = self.check().map_or(Opening::default(), |()| self);
         let terms = TermSet::empty();
         let axiom = Form::Nothing { left: terms };
         let context = Context {

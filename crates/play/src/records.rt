@@ -9,11 +9,7 @@ use std::alloc::Global;
 
 // The records, each of 12 bytes. Their numbers stay untested, since that is the shelf's part.
 pub(crate) fn records(heap: Global, bytes: &[u8]) -> Result<Vec<Axiom>, Unread> {
-    let mut records = Vec::new(heap);
-    for row in bytes.chunks(12) {
-        records.push(record(row)?)?;
-    }
-    Ok(records)
+    bytes.chunks(12).map(record).try_collect(heap)
 }
 
 // The record of 12 bytes.

@@ -1,6 +1,7 @@
 // Reads a line of a script: a word, and what it is about.
 use crate::opening::Opening;
 use crate::records::records;
+use hex::FromHexError;
 use numbers::term::Term;
 use shelf::form::Axiom;
 use std::alloc::{AllocError, AllocFailed, Global};
@@ -31,6 +32,16 @@ impl<T: Drop> From<AllocFailed<T>> for Unread {
 impl From<ParseIntError> for Unread {
     fn from(_e: ParseIntError) -> Unread {
         Unread::NotUnderstood
+    }
+}
+
+// A text that should be bytes in hex is not, or memory ran out while it was read.
+impl From<FromHexError> for Unread {
+    fn from(e: FromHexError) -> Unread {
+        match e {
+            FromHexError::OutOfMemory => Unread::NoMemory,
+            _ => Unread::NotUnderstood,
+        }
     }
 }
 
@@ -85,7 +96,7 @@ impl Call {
         match word {
             "open" => Ok(Call::Open(Opening::read(line)?)),
             "want" => Ok(Call::Want(terms(heap, rest)?)),
-            "work" => Ok(Call::Work(rest.parse::<u16>()?)),
+            "work" => Ok(Call::Work(rest.parse()?)),
             _ => Ok(Call::Ask(Asked::read(heap, word, rest)?)),
         }
     }
@@ -99,11 +110,11 @@ impl Asked {
             "take" => (Question::Take, rest),
             "entry" => {
                 let (shelf, place) = parted(rest, " ")?;
-                (Question::Entry(place.parse::<u16>()?), shelf)
+                (Question::Entry(place.parse()?), shelf)
             }
             "write" => {
                 let (shelf, capacity) = parted(rest, " ")?;
-                (Question::Write(capacity.parse::<usize>()?), shelf)
+                (Question::Write(capacity.parse()?), shelf)
             }
             _ => return Err(Unread::NotUnderstood),
         };
@@ -129,7 +140,7 @@ impl Source {
         Ok(Source::Joined {
             first: Single::read(heap, first)?,
             second: Single::read(heap, second)?,
-            mark: mark.parse::<u16>()?,
+            mark: mark.parse()?,
         })
     }
 }
@@ -138,9 +149,9 @@ impl Single {
     // A letter, a mark and bytes in hex.
     fn read(heap: Global, text: &str) -> Result<Single, Unread> {
         let (letter, rest) = parted(text, ":")?;
-        let (mark, hex) = parted(rest, ":")?;
-        let mark = mark.parse::<u16>()?;
-        let bytes = hex_bytes(heap, hex)?;
+        let (mark, digits) = parted(rest, ":")?;
+        let mark = mark.parse()?;
+        let bytes = hex::decode(heap, digits)?;
         match letter {
             "c" => Ok(Single::Catalogue { bytes, mark }),
             "r" => Ok(Single::Records {
@@ -159,34 +170,10 @@ pub(crate) fn parted<'a>(text: &'a str, separator: &str) -> Result<(&'a str, &'a
 
 // The terms of a list with commas, or none for two braces. Testing their numbers is the session's part.
 fn terms(heap: Global, text: &str) -> Result<Vec<Term>, Unread> {
-    let mut terms = Vec::new(heap);
     if text == "{}" {
-        return Ok(terms);
+        return Ok(Vec::new(heap));
     }
-    for number in text.split(',') {
-        terms.push(Term(number.parse::<u8>()?))?;
-    }
-    Ok(terms)
-}
-
-// The bytes that pairs of hex digits stand for.
-fn hex_bytes(heap: Global, text: &str) -> Result<Vec<u8>, Unread> {
-    let mut bytes = Vec::new(heap);
-    for pair in text.as_bytes().chunks(2) {
-        let [high, low] = pair else {
-            return Err(Unread::NotUnderstood);
-        };
-        bytes.push(hex_digit(*high)? << 4 | hex_digit(*low)?)?;
-    }
-    Ok(bytes)
-}
-
-// The value of a hex digit of either case.
-fn hex_digit(digit: u8) -> Result<u8, Unread> {
-    match digit {
-        b'0'..=b'9' => Ok(digit - b'0'),
-        b'a'..=b'f' => Ok(digit - b'a' + 10),
-        b'A'..=b'F' => Ok(digit - b'A' + 10),
-        _ => Err(Unread::NotUnderstood),
-    }
+    text.split(',')
+        .map(|number| -> Result<Term, Unread> { Ok(Term(number.parse()?)) })
+        .try_collect(heap)
 }

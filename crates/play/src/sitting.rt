@@ -17,7 +17,7 @@ impl Sitting {
     // The sitting before any line that opens a session.
     pub(crate) fn first(line: String) -> Sitting {
         Sitting {
-            opening: Opening::nothing(),
+            opening: Opening::default(),
             line,
         }
     }
