@@ -1,13 +1,10 @@
 // The answers of shelves and of the session to what a script asks.
-use crate::script::{Asked, Call, Question, Single, Source};
+use crate::script::{Asked, Call, Question, Source};
 use crate::text::{EntryText, HexText, RefusalText};
-use catalogue::reader::Catalogue;
 use session::refusal::Refusal;
 use session::session::Session;
 use session::session::working::Stop;
 use shelf::fault::Entry;
-use shelf::joined::Joined;
-use shelf::records::Records;
 use shelf::shelf::Shelf;
 use std::alloc::{AllocError, Global};
 use std::fmt;
@@ -49,59 +46,8 @@ impl Asked {
     // What the shelf answers, or the session that takes it.
     fn answer(&self, heap: Global, session: &mut Session) -> Result<Answer, AllocError> {
         match &self.source {
-            Source::Alone(Single::Catalogue { bytes, mark }) => {
-                ask(
-                    heap,
-                    session,
-                    self.question,
-                    &Catalogue::new(bytes.as_slice(), *mark),
-                )
-            }
-            Source::Alone(Single::Records { records, mark }) => {
-                ask(
-                    heap,
-                    session,
-                    self.question,
-                    &Records::new(records.as_slice(), *mark),
-                )
-            }
-            Source::Joined {
-                first: Single::Catalogue { bytes, mark: own },
-                second,
-                mark,
-            } => {
-                let first = Catalogue::new(bytes.as_slice(), *own);
-                ask_joined(heap, session, self.question, first, second, *mark)
-            }
-            Source::Joined {
-                first: Single::Records { records, mark: own },
-                second,
-                mark,
-            } => {
-                let first = Records::new(records.as_slice(), *own);
-                ask_joined(heap, session, self.question, first, second, *mark)
-            }
-        }
-    }
-}
-
-// The answer of a shelf joined with a second one.
-fn ask_joined<S: Shelf + Drop>(
-    heap: Global,
-    session: &mut Session,
-    question: Question,
-    first: S,
-    second: &Single,
-    mark: u16,
-) -> Result<Answer, AllocError> {
-    match second {
-        Single::Catalogue { bytes, mark: own } => {
-            let second = Catalogue::new(bytes.as_slice(), *own);
-            ask(heap, session, question, &Joined::new(first, second, mark))
-        }
-        Single::Records { records, mark: own } => {
-            let second = Records::new(records.as_slice(), *own);
-            ask(heap, session, question, &Joined::new(first, second, mark))
+            Source::Alone(shelf) => ask(heap, session, self.question, shelf),
+            Source::Joined(shelf) => ask(heap, session, self.question, shelf),
         }
     }
 }

@@ -5,6 +5,7 @@ mod answer;
 mod opening;
 mod records;
 mod script;
+mod single;
 mod sitting;
 mod text;
 

@@ -1,9 +1,10 @@
 // Reads a line of a script: a word, and what it is about.
 use crate::opening::Opening;
 use crate::records::records;
+use crate::single::Single;
 use hex::FromHexError;
 use numbers::term::Term;
-use shelf::form::Axiom;
+use shelf::joined::Joined;
 use std::alloc::{AllocError, AllocFailed, Global};
 use std::num::ParseIntError;
 
@@ -55,22 +56,11 @@ pub(crate) enum Question {
     Take,
 }
 
-// A shelf that is not joined, with what it is made over.
-#[derive(Drop)]
-pub(crate) enum Single {
-    Catalogue { bytes: Vec<u8>, mark: u16 },
-    Records { records: Vec<Axiom>, mark: u16 },
-}
-
-// A shelf as the script gives it.
+// A shelf as the script gives it: one alone, or two that are joined.
 #[derive(Drop)]
 pub(crate) enum Source {
     Alone(Single),
-    Joined {
-        first: Single,
-        second: Single,
-        mark: u16,
-    },
+    Joined(Joined<Single, Single>),
 }
 
 // A question and the shelf that it is asked of.
@@ -137,11 +127,11 @@ impl Source {
         if !after.is_empty() {
             return Err(Unread::NotUnderstood);
         }
-        Ok(Source::Joined {
-            first: Single::read(heap, first)?,
-            second: Single::read(heap, second)?,
-            mark: mark.parse()?,
-        })
+        Ok(Source::Joined(Joined::new(
+            Single::read(heap, first)?,
+            Single::read(heap, second)?,
+            mark.parse()?,
+        )))
     }
 }
 
