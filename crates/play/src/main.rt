@@ -17,11 +17,8 @@ use std::io::{BufRead, BufReader};
 fn main(rt: HostRuntime) -> io::Result<()> {
     let mut lines = BufReader::new(rt.alloc(), rt.stdin())?.lines(rt.alloc());
     let mut sitting = Sitting::first(String::new(rt.alloc()));
-    for _ in 0..u64::MAX {
-        match sitting.play(&rt, &mut lines)? {
-            Some(next) => sitting = next,
-            None => return Ok(()),
-        }
+    while let Some(next) = sitting.play(&rt, &mut lines)? {
+        sitting = next;
     }
     Ok(())
 }

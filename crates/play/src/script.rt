@@ -5,7 +5,7 @@ use crate::single::Single;
 use hex::FromHexError;
 use numbers::term::Term;
 use shelf::joined::Joined;
-use std::alloc::{AllocError, AllocFailed, Global};
+use std::alloc::{AllocError, Global};
 use std::num::ParseIntError;
 
 // Why a line gives no call.
@@ -18,13 +18,6 @@ pub(crate) enum Unread {
 // Memory ran out while the shelf was made.
 impl From<AllocError> for Unread {
     fn from(_e: AllocError) -> Unread {
-        Unread::NoMemory
-    }
-}
-
-// The same, where a value found no place.
-impl<T: Drop> From<AllocFailed<T>> for Unread {
-    fn from(_e: AllocFailed<T>) -> Unread {
         Unread::NoMemory
     }
 }

@@ -1,4 +1,7 @@
 // The lines of a script that are played with one session.
+ghost use Rattle.std.specs.Prelude.{◌<◌, IfOk, OnSome};
+ghost use Rattle.std.specs.Io.Iter.{lines_left};
+
 use crate::opening::Opening;
 use crate::script::{Call, Unread};
 use session::session::Session;
@@ -22,12 +25,14 @@ impl Sitting {
         }
     }
 
-    // Opens the session, and answers lines as they come up to one that opens another.
+    // Opens the session, and answers lines as they come up to one that opens another; then fewer lines are left.
     pub(crate) fn play<B: BufRead + Drop>(
         &self,
         rt: &HostRuntime,
         lines: &mut Lines<B, Global>,
-    ) -> io::Result<Option<Sitting>> {
+    ) -> io::Result<Option<Sitting>>
+        ensures { IfOk result (λ next. OnSome next (lines_left lines.new < lines_left lines.old)) }
+    {
         let mut tables = self.opening.tables(rt.alloc())?;
         let mut session = Session::open(
             self.opening.terms,
@@ -37,7 +42,8 @@ impl Sitting {
             tables.needs.as_mut_slice(),
         );
         play_line(rt, &mut session, self.line.as_str())?;
-        for line in lines {
+        // A `for` over the lent lines would say nothing of how many are left.
+        while let Some(line) = lines.next() {
             let line = line?;
             if let Ok(opening) = Opening::read(line.as_str()) {
                 return Ok(Some(Sitting { opening, line }));
