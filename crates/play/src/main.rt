@@ -16,7 +16,7 @@ use std::io::{BufRead, BufReader};
 // Plays the script on standard input. A line that opens a session ends the sitting before it.
 fn main(rt: HostRuntime) -> io::Result<()> {
     let mut lines = BufReader::new(rt.alloc(), rt.stdin())?.lines(rt.alloc());
-    let mut sitting = Sitting::first(String::new(rt.alloc()));
+    let mut sitting = Sitting::default();
     while let Some(next) = sitting.play(&rt, &mut lines)? {
         sitting = next;
     }

@@ -44,10 +44,7 @@ fn record(row: &[u8]) -> Result<Axiom, Unread> {
 
 // A right side where the number 0 stands for everything.
 fn filler(term: Term) -> Option<Term> {
-    match term {
-        Term(0) => None,
-        _ => Some(term),
-    }
+    (term.0 != 0).then_some(term)
 }
 
 // A role byte: the number, or 128 plus the number where the role is read backward.

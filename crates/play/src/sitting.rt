@@ -10,21 +10,13 @@ use std::io;
 use std::io::{BufRead, Lines};
 
 // What a session is opened with, and the line that says so; the first sitting has none.
-#[derive(Drop)]
+#[derive(Default, Drop)]
 pub(crate) struct Sitting {
     opening: Opening,
-    line: String,
+    line: Option<String>,
 }
 
 impl Sitting {
-    // The sitting before any line that opens a session.
-    pub(crate) fn first(line: String) -> Sitting {
-        Sitting {
-            opening: Opening::default(),
-            line,
-        }
-    }
-
     // Opens the session, and answers lines as they come up to one that opens another; then fewer lines are left.
     pub(crate) fn play<B: BufRead + Drop>(
         &self,
@@ -41,12 +33,17 @@ impl Sitting {
             tables.contexts.as_mut_slice(),
             tables.needs.as_mut_slice(),
         );
-        play_line(rt, &mut session, self.line.as_str())?;
+        if let Some(line) = &self.line {
+            play_line(rt, &mut session, line.as_str())?;
+        }
         // A `for` over the lent lines would say nothing of how many are left.
         while let Some(line) = lines.next() {
             let line = line?;
             if let Ok(opening) = Opening::read(line.as_str()) {
-                return Ok(Some(Sitting { opening, line }));
+                return Ok(Some(Sitting {
+                    opening,
+                    line: Some(line),
+                }));
             }
             play_line(rt, &mut session, line.as_str())?;
         }

@@ -44,10 +44,7 @@ impl fmt::Display for RoleText {
 
 // The number of a term, or 0 for everything.
 fn filler_number(filler: Option<Term>) -> u8 {
-    match filler {
-        None => 0,
-        Some(Term(n)) => n,
-    }
+    filler.map_or(0, |term| term.0)
 }
 
 // An axiom as a short sentence.
