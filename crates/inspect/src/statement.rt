@@ -47,6 +47,7 @@ impl fmt::Display for LeftText {
     ghost output = { λ t. Some (left_text t.0) };
 
     fn fmt<W: fmt::Write>(&self, f: &mut fmt::Formatter<W>) -> fmt::Result {
+        // A chain with `filter` needs no `first`, but a `for` over it in a generic function gets no proof.
         let mut first = true;
         for n in 1..=64u8 {
             if self.0.contains(Term(n)) {

@@ -1,4 +1,5 @@
 // How axioms, faults, refusals and bytes are printed.
+// `inspect` has a few types like these; a library for the lines that both share would be no plainer.
 use numbers::role::{DirectedRole, Role};
 use numbers::set::NumberSet;
 use numbers::term::Term;
