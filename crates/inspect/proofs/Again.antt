@@ -9,10 +9,6 @@ use Rattle.writer.specs.declared.WriteRefusal.{WriteRefusal}
 use Rattle.writer.proofs.Filling.{answer_ok}
 use Rattle.writer.proofs.WrittenAgain.{written_again}
 
--- the list of a catalogue that was made of some bytes is that of the bytes
-pub same_list : (a b : List ℕ) (m n : ℕ) → a ≡ b → m ≡ n → catalogue_list a m ≡ catalogue_list b n
-same_list a b m n p q = cc
-
 -- what is written has no fault
 pub taken_faultless : (es : List Entry) (room n : ℕ) → Ok n ≡ write_answer es room → faultless es ≡ true
 taken_faultless es room n h = go (writable es) refl
@@ -22,8 +18,8 @@ taken_faultless es room n h = go (writable es) refl
     go false e = let none = h ∙ cond-false (writable es) _ _ e in let z : ◌≡◌ {A = ℕ} 0 1 = cc in absurd (omega arith)
 
 -- what is refused for a buffer of its own length has one
-pub refused_faulty : (bytes : List ℕ) (m room : ℕ) (r : WriteRefusal) → Bytes bytes → room ≡ length bytes → Err r ≡ write_answer (catalogue_list bytes m) room → false ≡ faultless (catalogue_list bytes m)
-refused_faulty bytes m room r small e h = go (faultless (catalogue_list bytes m)) refl
+pub refused_faulty : (bytes : List ℕ) (m : ℕ) (r : WriteRefusal) → Bytes bytes → Err r ≡ write_answer (catalogue_list bytes m) (length bytes) → false ≡ faultless (catalogue_list bytes m)
+refused_faulty bytes m r small h = go (faultless (catalogue_list bytes m)) refl
   where
     es : List Entry
     es = catalogue_list bytes m
@@ -31,6 +27,6 @@ refused_faulty bytes m room r small e h = go (faultless (catalogue_list bytes m)
     go : (b : Bool) → faultless es ≡ b → false ≡ faultless es
     go false f = sym f
     go true f =
-        let fits : length (catalogue_bytes es) ≤ room = omega (arith, ap length (written_again bytes m small f)) in
-        let none = h ∙ answer_ok es room (and_from (leb (length es) 512) (faultless es) (le-leb (length es) 512 (catalogue_few bytes m)) f) fits in
+        let fits : length (catalogue_bytes es) ≤ length bytes = omega (arith, ap length (written_again bytes m small f)) in
+        let none = h ∙ answer_ok es (length bytes) (and_from (leb (length es) 512) (faultless es) (le-leb (length es) 512 (catalogue_few bytes m)) f) fits in
         let z : ◌≡◌ {A = ℕ} 0 1 = cc in absurd (omega arith)

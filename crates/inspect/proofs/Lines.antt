@@ -1,50 +1,41 @@
--- The lines of a listing, one entry more. Assumes nothing.
-use Rattle.std.proofs.Common.{◌≡◌, ℕ, suc, ◌+◌, ◌<◌, Bool, true, false, List, [], ◌∷◌, ◌++◌, length, get_or, take, is_err, Ok, Err, sym, refl, ap, ◌∙◌, ap₂, append_assoc, add-zero, arith}
-use Rattle.std.proofs.lemmas.List.{append-nil, take_more, length-take-le}
-use Rattle.std.proofs.lemmas.Bool.{true≢false, false≢true}
+-- The parts of a listing, one part more. Assumes nothing.
+use Rattle.std.proofs.Common.{is_err, filter, ◌≡◌, ℕ, suc, ◌+◌, List, [], ◌∷◌, ◌++◌, map, length, codes, decimal, Ok, Err, sym, refl, ap, ◌∙◌, append_assoc, add-one, arith, ◌==◌}
+use Rattle.std.proofs.lemmas.Bool.{cond-false, ne_eqb}
+use Rattle.numbers.specs.TermLists.{terms_of}
+use Rattle.numbers.specs.TermSets.{term_number}
+use Rattle.numbers.specs.declared.term.Term.{Term}
+use Rattle.numbers.specs.declared.term_set.TermSet.{TermSet}
 use Rattle.shelf.specs.Shelves.{Entry}
-use Rattle.writer.specs.Writing.{faultless}
-use Rattle.inspect.specs.Listings.{line_text, lines_text, faults_in, counts_text, end_text, listing_text}
+use Rattle.inspect.specs.Listings.{line_text, lines_text, faults_in}
+use Rattle.inspect.specs.Statements.{spaced, terms_text, left_text}
 
-lines_push : (p : ℕ) (es : List Entry) (e : Entry) → lines_text p (es ++ (e ∷ [])) ≡ lines_text p es ++ line_text (p + length es) e
-lines_push p [] e = append-nil (line_text p e) ∙ ap (λ (q : ℕ). line_text q e) (sym (add-zero p))
-lines_push p (x ∷ es) e =
-    ap (λ (xs : List ℕ). line_text p x ++ xs) (lines_push (suc p) es e ∙ ap (λ (q : ℕ). lines_text (suc p) es ++ line_text q e) (on p (length es)))
-    ∙ sym (append_assoc (line_text p x) (lines_text (suc p) es) (line_text (p + suc (length es)) e))
-  where
-    on : (p n : ℕ) → suc p + n ≡ p + suc n
-    on p n = omega arith
+module _ (said whole : List ℕ) where
+  -- the line of the next entry comes after what was said
+  pub next_line : (p : ℕ) (e : Entry) (es rest : List Entry) → es ≡ e ∷ rest → said ++ lines_text p es ≡ whole → (said ++ line_text p e) ++ lines_text (p + 1) rest ≡ whole
+  next_line p e es rest next so =
+      append_assoc said (line_text p e) (lines_text (p + 1) rest)
+      ∙ ap (λ (q : ℕ). said ++ (line_text p e ++ lines_text q rest)) (add-one p) ∙ ap (λ (xs : List Entry). said ++ lines_text p xs) (sym next) ∙ so
 
-faults_push : (es : List Entry) (e : Entry) → faults_in (es ++ (e ∷ [])) ≡ faults_in es + faults_in (e ∷ [])
-faults_push [] e = omega arith
-faults_push (Ok a ∷ es) e = faults_push es e
-faults_push (Err f ∷ es) e = omega (arith, faults_push es e)
+  -- the next term comes after what was said, behind a space
+  pub next_term : (t : Term) (ts rest : List Term) → ts ≡ t ∷ rest → said ++ spaced (map term_number ts) ≡ whole → (said ++ (codes " " ++ decimal t.0)) ++ spaced (map term_number rest) ≡ whole
+  next_term t ts rest next so =
+      append_assoc said (codes " " ++ decimal t.0) (spaced (map term_number rest))
+      ∙ ap (λ (xs : List ℕ). said ++ xs) (append_assoc (codes " ") (decimal t.0) (spaced (map term_number rest)))
+      ∙ ap (λ (xs : List Term). said ++ spaced (map term_number xs)) (sym next) ∙ so
 
--- the line of the entry i comes after those before it
-pub lines_more : (es : List Entry) (i : ℕ) (d : Entry) → i < length es → lines_text 1 (take (i + 1) es) ≡ lines_text 1 (take i es) ++ line_text (i + 1) (get_or es i d)
-lines_more es i d h =
-    ap (lines_text 1) (take_more es i d h) ∙ lines_push 1 (take i es) (get_or es i d)
-    ∙ ap (λ (q : ℕ). lines_text 1 (take i es) ++ line_text q (get_or es i d)) (omega (arith, length-take-le i es (omega arith)))
+-- a left side without terms, and one with a first term
+pub no_terms : (s : TermSet) → terms_of s ≡ [] → codes "all" ≡ left_text s
+unfolding left_text
+no_terms s e = sym (ap (λ (ts : List Term). terms_text (map term_number ts)) e)
 
--- a fault is counted, an axiom is not
-pub fault_more : (es : List Entry) (i : ℕ) (d : Entry) → i < length es → is_err (get_or es i d) ≡ true → faults_in (take i es) + 1 ≡ faults_in (take (i + 1) es)
-fault_more es i d h e = one (get_or es i d) e ∙ sym (ap faults_in (take_more es i d h) ∙ faults_push (take i es) (get_or es i d))
-  where
-    one : (x : Entry) → is_err x ≡ true → faults_in (take i es) + 1 ≡ faults_in (take i es) + faults_in (x ∷ [])
-    one (Ok a) e = absurd (false≢true e)
-    one (Err f) e = refl
+said_first : (n : ℕ) (ns : List ℕ) → terms_text (n ∷ ns) ≡ decimal n ++ spaced ns
+said_first n ns = cond-false (suc (length ns) == 0) (codes "all") (decimal n ++ spaced ns) (ne_eqb (suc (length ns)) 0 (omega arith))
 
-pub axiom_more : (es : List Entry) (i : ℕ) (d : Entry) → i < length es → is_err (get_or es i d) ≡ false → faults_in (take i es) ≡ faults_in (take (i + 1) es)
-axiom_more es i d h e = none (get_or es i d) e ∙ sym (ap faults_in (take_more es i d h) ∙ faults_push (take i es) (get_or es i d))
-  where
-    none : (x : Entry) → is_err x ≡ false → faults_in (take i es) ≡ faults_in (take i es) + faults_in (x ∷ [])
-    none (Ok a) e = sym (add-zero (faults_in (take i es)))
-    none (Err f) e = absurd (true≢false e)
+pub first_term : (s : TermSet) (t : Term) (rest : List Term) → terms_of s ≡ t ∷ rest → decimal t.0 ++ spaced (map term_number rest) ≡ left_text s
+unfolding left_text
+first_term s t rest e = sym (ap (λ (ts : List Term). terms_text (map term_number ts)) e ∙ said_first t.0 (map term_number rest))
 
--- a text to which the lines, the counts and the end were added is the listing
-pub whole_text : (es : List Entry) (t₀ t₁ t₂ t₃ : List ℕ) (n faults : ℕ) (again : Bool) → t₀ ≡ [] → t₁ ≡ t₀ ++ lines_text 1 es → t₂ ≡ t₁ ++ counts_text n faults → t₃ ≡ t₂ ++ end_text again
-    → n ≡ length es → faults ≡ faults_in es → again ≡ faultless es → t₃ ≡ listing_text es
-unfolding listing_text
-whole_text es t₀ t₁ t₂ t₃ n faults again a b c d p q r =
-    d ∙ ap₂ (λ (xs ys : List ℕ). xs ++ ys) (c ∙ ap₂ (λ (xs ys : List ℕ). xs ++ ys) (b ∙ ap (λ (xs : List ℕ). xs ++ lines_text 1 es) a) (ap₂ counts_text p q)) (ap end_text r)
-    ∙ append_assoc (lines_text 1 es) (counts_text (length es) (faults_in es)) (end_text (faultless es))
+pub count_errors : (es : List Entry) → length (filter (λ e. is_err e) es) ≡ faults_in es
+count_errors [] = refl
+count_errors (Ok a ∷ es) = count_errors es
+count_errors (Err f ∷ es) = ap suc (count_errors es)

@@ -1,7 +1,6 @@
 -- What the program says of an axiom. Assumes nothing.
 use Rattle.std.specs.Prelude.{ℕ, cond, List, [], ◌∷◌, ◌++◌, length, Some, None, codes, decimal, Option, ◌==◌}
-use Rattle.numbers.specs.declared.role.DirectedRole.{DirectedRole}
-use Rattle.numbers.specs.declared.role.DirectedRole.TheVariants.{Forward, Backward}
+use Rattle.numbers.specs.Roles.{role_text}
 use Rattle.numbers.specs.declared.term.Term.{Term}
 use Rattle.numbers.specs.declared.term_set.TermSet.{TermSet}
 use Rattle.shelf.specs.Axioms.{Axiom}
@@ -21,10 +20,6 @@ so_far (n ∷ ns) = decimal n ++ spaced ns
 -- the same, or `all` where there is none
 abbrev pub terms_text : List ℕ → List ℕ
 terms_text ns = cond (length ns == 0) (codes "all") (so_far ns)
-
-abbrev pub role_text : DirectedRole → List ℕ
-role_text (Forward r) = codes "S" ++ decimal r.0
-role_text (Backward r) = codes "-S" ++ decimal r.0
 
 abbrev pub filler_text : Option Term → List ℕ
 filler_text None = codes "0"

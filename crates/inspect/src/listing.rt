@@ -1,98 +1,116 @@
 // The listing of a catalogue, as text.
-ghost use Rattle.std.specs.Prelude.{◌≡◌, ◌++◌, length, IfOk, string_bytes, OnOk};
-ghost use Rattle.catalogue.specs.Catalogues.{Bytes, catalogue_list};
+ghost use Rattle.std.specs.Prelude.{◌≡◌, Some, IfOk, string_bytes};
+ghost use Rattle.catalogue.specs.Catalogues.{catalogue_list};
 ghost use Rattle.writer.specs.Writing.{faultless};
 ghost use Rattle.inspect.specs.Listings.{entry_text, line_text, lines_text, faults_in, counts_text, end_text, listing_text};
 
-use crate::statement::{push_number, push_statement};
+use crate::statement::Statement;
 use catalogue::reader::Catalogue;
-use shelf::fault::Entry;
+use shelf::fault::{Entry, ShelfFault};
 use shelf::shelf::Shelf;
 use std::alloc::{AllocError, Global};
+use std::fmt;
 use writer::write;
 
-// Adds what an entry states, or what is wrong with it.
-fn push_entry(text: &mut String, entry: Entry) -> Result<(), AllocError>
-    ensures { OnOk result (string_bytes text.new ≡ string_bytes text.old ++ entry_text «entry») }
-{
-    match entry {
-        Ok(axiom) => push_statement(text, axiom),
-        Err(fault) => {
-            text.push_str("fault ")?;
-            push_number(text, fault.fault.cause.number() as usize)?;
-            text.push_str(" at byte ")?;
-            push_number(text, fault.fault.byte)
+// What an entry states, or what is wrong with it.
+#[derive(Clone, Copy)]
+struct EntryText(Entry);
+
+impl fmt::Display for EntryText {
+    ghost output = { λ t. Some (entry_text t.0) };
+
+    fn fmt<W: fmt::Write>(&self, f: &mut fmt::Formatter<W>) -> fmt::Result {
+        match self.0 {
+            Ok(axiom) => write!(f, "{}", Statement(axiom)),
+            Err(ShelfFault { fault, .. }) => {
+                write!(f, "fault {} at byte {}", fault.cause.number(), fault.byte)
+            }
         }
     }
 }
 
-// Adds the line of an entry.
-fn push_line(text: &mut String, place: u16, entry: Entry) -> Result<(), AllocError>
-    ensures { OnOk result (string_bytes text.new ≡ string_bytes text.old ++ line_text place «entry») }
-{
-    push_number(text, place as usize)?;
-    text.push_str(": ")?;
-    push_entry(text, entry)?;
-    text.push_str("\n")
+// The line of an entry.
+#[derive(Clone, Copy)]
+struct Line {
+    place: u16,
+    entry: Entry,
 }
 
-// Says to the proof of a caller that a slice of bytes holds bytes; it does nothing.
-fn hold_bytes(bytes: &[u8])
-    ensures { Bytes bytes.now }
-{
-    if bytes.is_empty() {
-        return;
+impl fmt::Display for Line {
+    ghost output = { λ l. Some (line_text l.place l.entry) };
+
+    fn fmt<W: fmt::Write>(&self, f: &mut fmt::Formatter<W>) -> fmt::Result {
+        writeln!(f, "{}: {}", self.place, EntryText(self.entry))
     }
-    let _first = bytes[0];
+}
+
+// A line for each entry of a shelf.
+#[derive(Clone, Copy)]
+struct Lines<'a, S>(&'a S);
+
+impl<'a, S: Shelf> fmt::Display for Lines<'a, S> {
+    ghost output = { λ l. Some (lines_text 1 (S.Shelf.list l.0.now)) };
+
+    fn fmt<W: fmt::Write>(&self, f: &mut fmt::Formatter<W>) -> fmt::Result {
+        for (i, entry) in self.0.entries().enumerate() {
+            let place = i as u16 + 1;
+            write!(f, "{}", Line { place, entry })?;
+        }
+        Ok(())
+    }
+}
+
+// How many entries of a shelf are faulty.
+fn count_faults<S: Shelf>(shelf: &S) -> usize
+    ensures { result ≡ faults_in (S.Shelf.list shelf.now) }
+{
+    shelf.entries().filter(|entry| entry.is_err()).count()
+}
+
+// How many entries there are, and how many are faulty.
+#[derive(Clone, Copy)]
+struct Counts {
+    entries: u16,
+    faults: usize,
+}
+
+impl fmt::Display for Counts {
+    ghost output = { λ c. Some (counts_text c.entries c.faults) };
+
+    fn fmt<W: fmt::Write>(&self, f: &mut fmt::Formatter<W>) -> fmt::Result {
+        write!(f, "{} entries, {} faulty", self.entries, self.faults)
+    }
+}
+
+// Whether the catalogue was written again the same, and the end of the line.
+#[derive(Clone, Copy)]
+struct End {
+    again: bool,
+}
+
+impl fmt::Display for End {
+    ghost output = { λ e. Some (end_text e.again) };
+
+    fn fmt<W: fmt::Write>(&self, f: &mut fmt::Formatter<W>) -> fmt::Result {
+        if self.again {
+            f.write_str(", written again the same\n")
+        } else {
+            f.write_str("\n")
+        }
+    }
 }
 
 // Whether the catalogue is written again with the same bytes, into a buffer of the same length.
-fn is_written_again(bytes: &[u8], buffer: &mut [u8]) -> bool
-    requires { length buffer.old ≡ length bytes.now }
-    ensures { result ≡ faultless (catalogue_list bytes.now 0) }
+fn is_written_again(heap: Global, bytes: &[u8]) -> Result<bool, AllocError>
+    ensures { IfOk result (λ again. again ≡ faultless (catalogue_list bytes.now 0)) }
 {
-    hold_bytes(bytes);
-    match write(&Catalogue::new(bytes, 0), buffer) {
-        Ok(len) => &buffer[0..len] == bytes,
+    let mut room = vec![in heap; 0; bytes.len()]?;
+    let buffer = room.as_mut_slice();
+    let again = match write(&Catalogue::new(bytes, 0), buffer) {
+        Ok(len) => buffer[..len] == bytes[..],
         Err(_) => false,
-    }
-}
-
-// Adds a line for each entry, and answers how many are faulty.
-fn push_lines<S: Shelf>(text: &mut String, shelf: &S) -> Result<u16, AllocError>
-    ensures { IfOk result (λ n. (string_bytes text.new ≡ string_bytes text.old ++ lines_text 1 (S.Shelf.list shelf.now)) × (n ≡ faults_in (S.Shelf.list shelf.now))) }
-{
-    let mut faults = 0;
-    for i in 0..shelf.count() {
-        let entry = shelf.entry(i + 1);
-        let faulty = entry.is_err();
-        if faulty {
-            faults += 1;
-        }
-        push_line(text, i + 1, entry)?;
-    }
-    Ok(faults)
-}
-
-// Adds how many entries there are, and how many are faulty.
-fn push_counts(text: &mut String, count: u16, faults: u16) -> Result<(), AllocError>
-    ensures { OnOk result (string_bytes text.new ≡ string_bytes text.old ++ counts_text count faults) }
-{
-    push_number(text, count as usize)?;
-    text.push_str(" entries, ")?;
-    push_number(text, faults as usize)?;
-    text.push_str(" faulty")
-}
-
-// Adds whether the catalogue was written again the same, and ends the line.
-fn push_end(text: &mut String, again: bool) -> Result<(), AllocError>
-    ensures { OnOk result (string_bytes text.new ≡ string_bytes text.old ++ end_text again) }
-{
-    if again {
-        text.push_str(", written again the same\n")
-    } else {
-        text.push_str("\n")
-    }
+    };
+    Ok(again)
 }
 
 // The listing of a catalogue: a line for each entry, and one that counts them.
@@ -100,11 +118,12 @@ pub fn listing(heap: Global, bytes: &[u8]) -> Result<String, AllocError>
     ensures { IfOk result (λ t. string_bytes t ≡ listing_text (catalogue_list bytes.now 0)) }
 {
     let catalogue = Catalogue::new(bytes, 0);
-    let mut buffer = vec![in heap; 0u8; bytes.len()]?;
-    let again = is_written_again(bytes, &mut buffer);
-    let mut text = String::new(heap);
-    let faults = push_lines(&mut text, &catalogue)?;
-    push_counts(&mut text, catalogue.count(), faults)?;
-    push_end(&mut text, again)?;
-    Ok(text)
+    let again = is_written_again(heap, bytes)?;
+    let lines = Lines(&catalogue);
+    let counts = Counts {
+        entries: catalogue.count(),
+        faults: count_faults(&catalogue),
+    };
+    let end = End { again };
+    format!(in heap; "{lines}{counts}{end}")
 }

@@ -1,5 +1,5 @@
 -- Directed roles: which mean something, their numbers as members of sets, and turning. Assumes nothing.
-use Rattle.std.specs.Prelude.{ℕ, ◌+◌, Bool, cond}
+use Rattle.std.specs.Prelude.{ℕ, ◌+◌, Bool, cond, List, ◌++◌, codes, decimal}
 use Rattle.numbers.specs.Bits.{possible}
 use Rattle.numbers.specs.declared.role.DirectedRole.{DirectedRole}
 use Rattle.numbers.specs.declared.role.DirectedRole.TheVariants.{Forward, Backward}
@@ -23,3 +23,8 @@ turn (Backward r) = Forward r
 abbrev pub role_number : DirectedRole → ℕ
 role_number (Forward r) = cond (possible 16 r.0) r.0 0
 role_number (Backward r) = cond (possible 16 r.0) (16 + r.0) 0
+
+-- a role as it is printed
+abbrev pub role_text : DirectedRole → List ℕ
+role_text (Forward r) = codes "S" ++ decimal r.0
+role_text (Backward r) = codes "-S" ++ decimal r.0

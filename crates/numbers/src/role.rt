@@ -1,6 +1,8 @@
 // A role by its number, and a role with the direction in which it is read.
-ghost use Rattle.std.specs.Prelude.{◌≡◌};
-ghost use Rattle.numbers.specs.Roles.{turn, is_role, role_up_to};
+ghost use Rattle.std.specs.Prelude.{◌≡◌, Some};
+ghost use Rattle.numbers.specs.Roles.{turn, is_role, role_up_to, role_text};
+
+use std::fmt;
 
 // The roles that mean something have the numbers 1 to 16; the calls that are given a role test that.
 #[derive(Clone, Copy, PartialEq, Eq, Debug)]
@@ -11,6 +13,18 @@ pub struct Role(pub u8);
 pub enum DirectedRole {
     Forward(Role),
     Backward(Role),
+}
+
+// The role's number behind the letter S, and a minus before both where it is read backward.
+impl fmt::Display for DirectedRole {
+    ghost output = { λ r. Some (role_text r) };
+
+    fn fmt<W: fmt::Write>(&self, f: &mut fmt::Formatter<W>) -> fmt::Result {
+        match self {
+            DirectedRole::Forward(Role(n)) => write!(f, "S{n}"),
+            DirectedRole::Backward(Role(n)) => write!(f, "-S{n}"),
+        }
+    }
 }
 
 impl DirectedRole {

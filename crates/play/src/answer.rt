@@ -1,41 +1,39 @@
 // The answers of shelves and of the session to what a script asks.
-use crate::script::{Asked, Call, Question, Single, Source};
+use crate::script::{Asked, Call, Question, Source};
 use crate::text::{EntryText, HexText, RefusalText};
-use catalogue::reader::Catalogue;
 use session::refusal::Refusal;
 use session::session::Session;
 use session::session::working::Stop;
 use shelf::fault::Entry;
-use shelf::joined::Joined;
-use shelf::records::Records;
 use shelf::shelf::Shelf;
 use std::alloc::{AllocError, Global};
 use std::fmt;
 use writer::{WriteRefusal, write};
 
-// What is answered; a buffer is kept whole, with the length of what was written.
+// What is answered; a buffer is kept whole, beside the length of what was written.
 #[derive(Drop)]
 pub(crate) enum Answer {
     Count(u16),
     Entry(Entry),
-    Written { length: usize, buffer: Vec<u8> },
-    NotWritten(WriteRefusal),
-    Done,
-    Place(u16),
-    Worked { steps: u16, stop: Stop },
-    Refused(Refusal),
+    Written {
+        length: Result<usize, WriteRefusal>,
+        buffer: Vec<u8>,
+    },
+    Done(Result<(), Refusal>),
+    Place(Result<u16, Refusal>),
+    Worked {
+        steps: u16,
+        stop: Stop,
+    },
 }
 
 impl Call {
     // What the call answers. An opening is checked only: its session is open already.
     pub(crate) fn answer(&self, heap: Global, session: &mut Session) -> Result<Answer, AllocError> {
         match self {
-            Call::Open(sizes) => Ok(done(sizes.check())),
+            Call::Open(sizes) => Ok(Answer::Done(sizes.check())),
             Call::Ask(asked) => asked.answer(heap, session),
-            Call::Want(terms) => match session.want(terms.as_slice()) {
-                Ok(place) => Ok(Answer::Place(place)),
-                Err(refusal) => Ok(Answer::Refused(refusal)),
-            },
+            Call::Want(terms) => Ok(Answer::Place(session.want(terms.as_slice()))),
             Call::Work(budget) => {
                 let (steps, stop) = session.work(*budget);
                 Ok(Answer::Worked { steps, stop })
@@ -44,71 +42,12 @@ impl Call {
     }
 }
 
-// The answer of a call that gives nothing back.
-fn done(res: Result<(), Refusal>) -> Answer {
-    match res {
-        Ok(()) => Answer::Done,
-        Err(refusal) => Answer::Refused(refusal),
-    }
-}
-
 impl Asked {
     // What the shelf answers, or the session that takes it.
     fn answer(&self, heap: Global, session: &mut Session) -> Result<Answer, AllocError> {
         match &self.source {
-            Source::Alone(Single::Catalogue { bytes, mark }) => {
-                ask(
-                    heap,
-                    session,
-                    self.question,
-                    &Catalogue::new(bytes.as_slice(), *mark),
-                )
-            }
-            Source::Alone(Single::Records { records, mark }) => {
-                ask(
-                    heap,
-                    session,
-                    self.question,
-                    &Records::new(records.as_slice(), *mark),
-                )
-            }
-            Source::Joined {
-                first: Single::Catalogue { bytes, mark: own },
-                second,
-                mark,
-            } => {
-                let first = Catalogue::new(bytes.as_slice(), *own);
-                ask_joined(heap, session, self.question, first, second, *mark)
-            }
-            Source::Joined {
-                first: Single::Records { records, mark: own },
-                second,
-                mark,
-            } => {
-                let first = Records::new(records.as_slice(), *own);
-                ask_joined(heap, session, self.question, first, second, *mark)
-            }
-        }
-    }
-}
-
-// The answer of a shelf joined with a second one.
-fn ask_joined<S: Shelf + Drop>(
-    heap: Global,
-    session: &mut Session,
-    question: Question,
-    first: S,
-    second: &Single,
-    mark: u16,
-) -> Result<Answer, AllocError> {
-    match second {
-        Single::Catalogue { bytes, mark: own } => {
-            let second = Catalogue::new(bytes.as_slice(), *own);
-            ask(heap, session, question, &Joined::new(first, second, mark))
-        }
-        Single::Records { records, mark: own } => {
-            let second = Records::new(records.as_slice(), *own);
-            ask(heap, session, question, &Joined::new(first, second, mark))
+            Source::Alone(shelf) => ask(heap, session, self.question, shelf),
+            Source::Joined(shelf) => ask(heap, session, self.question, shelf),
         }
     }
 }
@@ -125,12 +64,10 @@ fn ask<S: Shelf>(
         Question::Entry(place) => Ok(Answer::Entry(shelf.entry(place))),
         Question::Write(capacity) => {
             let mut buffer = vec![in heap; 0xeeu8; capacity]?;
-            match write(shelf, buffer.as_mut_slice()) {
-                Ok(length) => Ok(Answer::Written { length, buffer }),
-                Err(refusal) => Ok(Answer::NotWritten(refusal)),
-            }
+            let length = write(shelf, buffer.as_mut_slice());
+            Ok(Answer::Written { length, buffer })
         }
-        Question::Take => Ok(done(session.take(shelf))),
+        Question::Take => Ok(Answer::Done(session.take(shelf))),
     }
 }
 
@@ -140,16 +77,20 @@ impl fmt::Display for Answer {
         match self {
             Answer::Count(count) => write!(f, "{count}"),
             Answer::Entry(entry) => write!(f, "{}", EntryText(*entry)),
-            Answer::Written { length, buffer } => write!(
-                f,
-                "{length} {}",
-                HexText(buffer.as_slice())
-            ),
-            Answer::NotWritten(refusal) => write!(f, "refused {}", refusal.number()),
-            Answer::Done => f.write_str("ok"),
-            Answer::Place(place) => write!(f, "place {place}"),
+            Answer::Written {
+                length: Ok(length),
+                buffer,
+            } => write!(f, "{length} {}", HexText(buffer.as_slice())),
+            Answer::Written {
+                length: Err(refusal),
+                ..
+            } => write!(f, "refused {}", refusal.number()),
+            Answer::Done(Ok(())) => f.write_str("ok"),
+            Answer::Place(Ok(place)) => write!(f, "place {place}"),
+            Answer::Done(Err(refusal)) | Answer::Place(Err(refusal)) => {
+                write!(f, "{}", RefusalText(*refusal))
+            }
             Answer::Worked { steps, stop } => write!(f, "{steps} {}", stop.number()),
-            Answer::Refused(refusal) => write!(f, "{}", RefusalText(*refusal)),
         }
     }
 }

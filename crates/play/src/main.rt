@@ -5,6 +5,7 @@ mod answer;
 mod opening;
 mod records;
 mod script;
+mod single;
 mod sitting;
 mod text;
 
@@ -15,12 +16,9 @@ use std::io::{BufRead, BufReader};
 // Plays the script on standard input. A line that opens a session ends the sitting before it.
 fn main(rt: HostRuntime) -> io::Result<()> {
     let mut lines = BufReader::new(rt.alloc(), rt.stdin())?.lines(rt.alloc());
-    let mut sitting = Sitting::first(String::new(rt.alloc()));
-    for _ in 0..u64::MAX {
-        match sitting.play(&rt, &mut lines)? {
-            Some(next) => sitting = next,
-            None => return Ok(()),
-        }
+    let mut sitting = Sitting::FIRST;
+    while let Some(next) = sitting.play(&rt, &mut lines)? {
+        sitting = next;
     }
     Ok(())
 }

@@ -18,19 +18,17 @@ pub(crate) struct Tables {
 
 // The sizes that a line states: a word and five numbers.
 pub(crate) fn read(line: &str) -> Result<Sizes, Unread> {
-    let Some(numbers) = line.strip_prefix("open ") else {
-        return Err(Unread::NotUnderstood);
-    };
+    let numbers = line.strip_prefix("open ").ok_or(Unread::NotUnderstood)?;
     let (terms, rest) = parted(numbers, " ")?;
     let (roles, lengths) = parted(rest, " ")?;
     let (axioms, rest) = parted(lengths, " ")?;
     let (contexts, needs) = parted(rest, " ")?;
     Ok(Sizes {
-        terms: terms.parse::<u8>()?,
-        roles: roles.parse::<u8>()?,
-        axioms: axioms.parse::<usize>()?,
-        contexts: contexts.parse::<usize>()?,
-        needs: needs.parse::<usize>()?,
+        terms: terms.parse()?,
+        roles: roles.parse()?,
+        axioms: axioms.parse()?,
+        contexts: contexts.parse()?,
+        needs: needs.parse()?,
     })
 }
 

@@ -1,19 +1,15 @@
 // Records as a script gives them: a kind, a right side, two role bytes, and the left set in 8 bytes.
 use crate::script::Unread;
 use numbers::role::{DirectedRole, Role};
-use numbers::set::NumberSet;
 use numbers::term::Term;
 use numbers::term_set::TermSet;
+use numbers::word_set::WordSet;
 use shelf::form::{Axiom, Form};
 use std::alloc::Global;
 
 // The records, each of 12 bytes. Their numbers stay untested, since that is the shelf's part.
 pub(crate) fn records(heap: Global, bytes: &[u8]) -> Result<Vec<Axiom>, Unread> {
-    let mut records = Vec::new(heap);
-    for row in bytes.chunks(12) {
-        records.push(record(row)?)?;
-    }
-    Ok(records)
+    bytes.chunks(12).map(record).try_collect(heap)
 }
 
 // The record of 12 bytes.
@@ -21,7 +17,7 @@ fn record(row: &[u8]) -> Result<Axiom, Unread> {
     let [kind, right, role, upper, a, b, c, d, e, f, g, h] = row else {
         return Err(Unread::NotUnderstood);
     };
-    let left = term_set(u64::from_be_bytes([*a, *b, *c, *d, *e, *f, *g, *h]));
+    let left = TermSet::of_word(u64::from_be_bytes([*a, *b, *c, *d, *e, *f, *g, *h]));
     let term = Term(*right);
     let role = directed(*role);
     match *kind {
@@ -48,28 +44,15 @@ fn record(row: &[u8]) -> Result<Axiom, Unread> {
 
 // A right side where the number 0 stands for everything.
 fn filler(term: Term) -> Option<Term> {
-    match term {
-        Term(0) => None,
-        _ => Some(term),
-    }
+    (term.0 != 0).then_some(term)
 }
 
-// A role byte: the number, or 128 plus the number where the role is read backward.
+// A role byte: the number, or 128 plus the number where the role is read backward. No `From`, which may only be written in the
+// crate of one of its types.
 fn directed(byte: u8) -> DirectedRole {
     if byte < 128 {
         DirectedRole::Forward(Role(byte))
     } else {
         DirectedRole::Backward(Role(byte - 128))
     }
-}
-
-// The terms whose bits are 1, the term 1 by the lowest bit.
-fn term_set(bits: u64) -> TermSet {
-    let mut set = TermSet::empty();
-    for n in 0..64u8 {
-        if bits >> n & 1 == 1 {
-            set = set.union(TermSet::only(Term(n + 1)));
-        }
-    }
-    set
 }

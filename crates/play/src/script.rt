@@ -1,10 +1,12 @@
 // Reads a line of a script: a word, and what it is about.
 use crate::opening;
 use crate::records::records;
+use crate::single::Single;
+use hex::FromHexError;
 use numbers::term::Term;
 use session::sizes::Sizes;
-use shelf::form::Axiom;
-use std::alloc::{AllocError, AllocFailed, Global};
+use shelf::joined::Joined;
+use std::alloc::{AllocError, Global};
 use std::num::ParseIntError;
 
 // Why a line gives no call.
@@ -21,17 +23,20 @@ impl From<AllocError> for Unread {
     }
 }
 
-// The same, where a value found no place.
-impl<T: Drop> From<AllocFailed<T>> for Unread {
-    fn from(_e: AllocFailed<T>) -> Unread {
-        Unread::NoMemory
-    }
-}
-
 // A text that should be a number is none, or one that is too large.
 impl From<ParseIntError> for Unread {
     fn from(_e: ParseIntError) -> Unread {
         Unread::NotUnderstood
+    }
+}
+
+// A text that should be bytes in hex is not, or memory ran out while it was read.
+impl From<FromHexError> for Unread {
+    fn from(e: FromHexError) -> Unread {
+        match e {
+            FromHexError::OutOfMemory => Unread::NoMemory,
+            _ => Unread::NotUnderstood,
+        }
     }
 }
 
@@ -45,22 +50,11 @@ pub(crate) enum Question {
     Take,
 }
 
-// A shelf that is not joined, with what it is made over.
-#[derive(Drop)]
-pub(crate) enum Single {
-    Catalogue { bytes: Vec<u8>, mark: u16 },
-    Records { records: Vec<Axiom>, mark: u16 },
-}
-
-// A shelf as the script gives it.
+// A shelf as the script gives it: one alone, or two that are joined.
 #[derive(Drop)]
 pub(crate) enum Source {
     Alone(Single),
-    Joined {
-        first: Single,
-        second: Single,
-        mark: u16,
-    },
+    Joined(Joined<Single, Single>),
 }
 
 // A question and the shelf that it is asked of.
@@ -86,7 +80,7 @@ impl Call {
         match word {
             "open" => Ok(Call::Open(opening::read(line)?)),
             "want" => Ok(Call::Want(terms(heap, rest)?)),
-            "work" => Ok(Call::Work(rest.parse::<u16>()?)),
+            "work" => Ok(Call::Work(rest.parse()?)),
             _ => Ok(Call::Ask(Asked::read(heap, word, rest)?)),
         }
     }
@@ -100,11 +94,11 @@ impl Asked {
             "take" => (Question::Take, rest),
             "entry" => {
                 let (shelf, place) = parted(rest, " ")?;
-                (Question::Entry(place.parse::<u16>()?), shelf)
+                (Question::Entry(place.parse()?), shelf)
             }
             "write" => {
                 let (shelf, capacity) = parted(rest, " ")?;
-                (Question::Write(capacity.parse::<usize>()?), shelf)
+                (Question::Write(capacity.parse()?), shelf)
             }
             _ => return Err(Unread::NotUnderstood),
         };
@@ -127,11 +121,11 @@ impl Source {
         if !after.is_empty() {
             return Err(Unread::NotUnderstood);
         }
-        Ok(Source::Joined {
-            first: Single::read(heap, first)?,
-            second: Single::read(heap, second)?,
-            mark: mark.parse::<u16>()?,
-        })
+        Ok(Source::Joined(Joined::new(
+            Single::read(heap, first)?,
+            Single::read(heap, second)?,
+            mark.parse()?,
+        )))
     }
 }
 
@@ -139,9 +133,9 @@ impl Single {
     // A letter, a mark and bytes in hex.
     fn read(heap: Global, text: &str) -> Result<Single, Unread> {
         let (letter, rest) = parted(text, ":")?;
-        let (mark, hex) = parted(rest, ":")?;
-        let mark = mark.parse::<u16>()?;
-        let bytes = hex_bytes(heap, hex)?;
+        let (mark, digits) = parted(rest, ":")?;
+        let mark = mark.parse()?;
+        let bytes = hex::decode(heap, digits)?;
         match letter {
             "c" => Ok(Single::Catalogue { bytes, mark }),
             "r" => Ok(Single::Records {
@@ -160,34 +154,10 @@ pub(crate) fn parted<'a>(text: &'a str, separator: &str) -> Result<(&'a str, &'a
 
 // The terms of a list with commas, or none for two braces. Testing their numbers is the session's part.
 fn terms(heap: Global, text: &str) -> Result<Vec<Term>, Unread> {
-    let mut terms = Vec::new(heap);
     if text == "{}" {
-        return Ok(terms);
+        return Ok(Vec::new(heap));
     }
-    for number in text.split(',') {
-        terms.push(Term(number.parse::<u8>()?))?;
-    }
-    Ok(terms)
-}
-
-// The bytes that pairs of hex digits stand for.
-fn hex_bytes(heap: Global, text: &str) -> Result<Vec<u8>, Unread> {
-    let mut bytes = Vec::new(heap);
-    for pair in text.as_bytes().chunks(2) {
-        let [high, low] = pair else {
-            return Err(Unread::NotUnderstood);
-        };
-        bytes.push(hex_digit(*high)? << 4 | hex_digit(*low)?)?;
-    }
-    Ok(bytes)
-}
-
-// The value of a hex digit of either case.
-fn hex_digit(digit: u8) -> Result<u8, Unread> {
-    match digit {
-        b'0'..=b'9' => Ok(digit - b'0'),
-        b'a'..=b'f' => Ok(digit - b'a' + 10),
-        b'A'..=b'F' => Ok(digit - b'A' + 10),
-        _ => Err(Unread::NotUnderstood),
-    }
+    text.split(',')
+        .map(|number| -> Result<Term, Unread> { Ok(Term(number.parse()?)) })
+        .try_collect(heap)
 }

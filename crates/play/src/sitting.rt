@@ -1,4 +1,7 @@
 // The lines of a script that are played with one session.
+ghost use Rattle.std.specs.Prelude.{◌<◌, IfOk, OnSome};
+ghost use Rattle.std.specs.Io.Iter.{lines_left};
+
 use crate::opening;
 use crate::opening::Tables;
 use crate::script::{Call, Unread};
@@ -12,24 +15,24 @@ use std::io::{BufRead, Lines};
 #[derive(Drop)]
 pub(crate) struct Sitting {
     sizes: Sizes,
-    line: String,
+    line: Option<String>,
 }
 
 impl Sitting {
     // The sitting before any line that opens a session.
-    pub(crate) fn first(line: String) -> Sitting {
-        Sitting {
-            sizes: Sizes::NONE,
-            line,
-        }
-    }
+    pub(crate) const FIRST: Sitting = Sitting {
+        sizes: Sizes::NONE,
+        line: None,
+    };
 
-    // Opens the session, and answers lines as they come up to one that opens another.
+    // Opens the session, and answers lines as they come up to one that opens another; then fewer lines are left.
     pub(crate) fn play<B: BufRead + Drop>(
         &self,
         rt: &HostRuntime,
         lines: &mut Lines<B, Global>,
-    ) -> io::Result<Option<Sitting>> {
+    ) -> io::Result<Option<Sitting>>
+        ensures { IfOk result (λ next. OnSome next (lines_left lines.new < lines_left lines.old)) }
+    {
         let mut tables = Tables::new(rt.alloc(), self.sizes)?;
         let mut session = Session::open(
             self.sizes.terms,
@@ -38,11 +41,17 @@ impl Sitting {
             tables.contexts.as_mut_slice(),
             tables.needs.as_mut_slice(),
         );
-        play_line(rt, &mut session, self.line.as_str())?;
-        for line in lines {
+        if let Some(line) = &self.line {
+            play_line(rt, &mut session, line.as_str())?;
+        }
+        // A `for` over the lent lines would say nothing of how many are left.
+        while let Some(line) = lines.next() {
             let line = line?;
             if let Ok(sizes) = opening::read(line.as_str()) {
-                return Ok(Some(Sitting { sizes, line }));
+                return Ok(Some(Sitting {
+                    sizes,
+                    line: Some(line),
+                }));
             }
             play_line(rt, &mut session, line.as_str())?;
         }

@@ -1,6 +1,5 @@
 // How axioms, faults, refusals and bytes are printed.
-use numbers::role::{DirectedRole, Role};
-use numbers::set::NumberSet;
+// `inspect` has a few types like these with other words; a library for the lines that both share would be no plainer.
 use numbers::term::Term;
 use numbers::term_set::TermSet;
 use session::refusal::Refusal;
@@ -14,40 +13,21 @@ struct SetText(TermSet);
 
 impl fmt::Display for SetText {
     fn fmt<W: fmt::Write>(&self, f: &mut fmt::Formatter<W>) -> fmt::Result {
+        let mut terms = self.0.terms();
         f.write_str("{")?;
-        let mut first = true;
-        for n in 1..=64u8 {
-            if self.0.contains(Term(n)) {
-                if !first {
-                    f.write_str(",")?;
-                }
-                write!(f, "{n}")?;
-                first = false;
-            }
+        if let Some(Term(first)) = terms.next() {
+            write!(f, "{first}")?;
+        }
+        for Term(n) in terms {
+            write!(f, ",{n}")?;
         }
         f.write_str("}")
     }
 }
 
-// A role, with a minus before it where it is read backward.
-#[derive(Clone, Copy)]
-struct RoleText(DirectedRole);
-
-impl fmt::Display for RoleText {
-    fn fmt<W: fmt::Write>(&self, f: &mut fmt::Formatter<W>) -> fmt::Result {
-        match self.0 {
-            DirectedRole::Forward(Role(n)) => write!(f, "S{n}"),
-            DirectedRole::Backward(Role(n)) => write!(f, "-S{n}"),
-        }
-    }
-}
-
 // The number of a term, or 0 for everything.
 fn filler_number(filler: Option<Term>) -> u8 {
-    match filler {
-        None => 0,
-        Some(Term(n)) => n,
-    }
+    filler.map_or(0, |term| term.0)
 }
 
 // An axiom as a short sentence.
@@ -60,32 +40,17 @@ impl fmt::Display for AxiomText {
             Form::Under { left, term } => write!(f, "{} under {}", SetText(left), term.0),
             Form::Nothing { left } => write!(f, "{} under nothing", SetText(left)),
             Form::Exists { left, role, filler } => {
-                write!(
-                    f,
-                    "{} some {} {}",
-                    SetText(left),
-                    RoleText(role),
-                    filler_number(filler)
-                )
+                let (left, filler) = (SetText(left), filler_number(filler));
+                write!(f, "{left} some {role} {filler}")
             }
             Form::Only { left, role, term } => {
-                write!(f, "{} only {} {}", SetText(left), RoleText(role), term.0)
+                write!(f, "{} only {role} {}", SetText(left), term.0)
             }
             Form::AtMostOne { left, role, filler } => {
-                write!(
-                    f,
-                    "{} at most one {} {}",
-                    SetText(left),
-                    RoleText(role),
-                    filler_number(filler)
-                )
+                let (left, filler) = (SetText(left), filler_number(filler));
+                write!(f, "{left} at most one {role} {filler}")
             }
-            Form::RoleUnder { lower, upper } => write!(
-                f,
-                "{} under {}",
-                RoleText(lower),
-                RoleText(upper)
-            ),
+            Form::RoleUnder { lower, upper } => write!(f, "{lower} under {upper}"),
         }
     }
 }

@@ -1,20 +1,16 @@
 -- The terms of a set as a rising list of bytes. Assumes nothing.
-use Rattle.std.proofs.Common.{◌≡◌, ℕ, ◌+◌, ◌-◌, ◌≤◌, Bool, cond, List, [], ◌∷◌, ◌++◌, map, length, filter, sym, refl, ap, ◌∙◌, subst, arith}
+use Rattle.std.proofs.Common.{◌≡◌, ℕ, ◌≤◌, List, [], map, length, filter, sym, refl, ap, ◌∙◌, subst, arith}
 use lib.ListN.{length-map}
 use Rattle.std.proofs.lemmas.List.{map-id}
 use Rattle.std.proofs.lemmas.Simd.{map-map}
 use Rattle.std.proofs.lemmas.List.Sums.{length-filter, count_by-le-length}
-use Rattle.std.proofs.lemmas.List.FromFn.{length-range_with_len, filter_of_map_range_with_len_more}
+use Rattle.std.proofs.lemmas.List.FromFn.{length-range_with_len}
 use Rattle.std.specs.List.{range_with_len}
 use Rattle.numbers.specs.TermSets.{term_has, term_none, term_number}
 use Rattle.numbers.specs.TermLists.{term_of, members, members_from, terms_of}
 use Rattle.numbers.specs.declared.term_set.TermSet.{TermSet}
 use Rattle.shelf.specs.Axioms.{Axiom}
 use Rattle.writer.specs.Writing.{left_bytes, body_bytes}
-
--- one number more
-pub kept_next : (p : ℕ → Bool) (n : ℕ) → 1 ≤ n → filter p (range_with_len 1 (n + 1 - 1)) ≡ filter p (range_with_len 1 (n - 1)) ++ cond (p n) (n ∷ []) []
-kept_next p n h = let up : n + 1 - 1 ≡ n - 1 + 1 = omega arith in rw up (simp map-id at (filter_of_map_range_with_len_more p (λ k. k) 1 (n - 1) n (omega arith)))
 
 -- the numbers of terms that were made of numbers
 numbers_again : (ns : List ℕ) → map term_number (map term_of ns) ≡ ns

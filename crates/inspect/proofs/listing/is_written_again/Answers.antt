@@ -1,28 +1,21 @@
-use Rattle.std.proofs.Common.{◌≡◌, ℕ, ◌-◌, List, length, take, sym, ap, ◌∙◌, arith}
+use Rattle.std.proofs.Common.{ap₂, ◌≡◌, length, take, sym, ◌∙◌, arith}
 use Rattle.std.proofs.lemmas.Slice.Eq.{slice_eq-Decides}
-use Rattle.catalogue.specs.Catalogues.{catalogue_list}
-use Rattle.shelf.specs.Shelves.{Entry}
-use Rattle.writer.specs.Writing.{write_answer}
-use Rattle.inspect.proofs.Again.{same_list, taken_faultless, refused_faulty}
-use Rattle.inspect.proofs.listing.is_written_again.Goals as goal
 use Rattle.std.proofs.lemmas.Bool.Decides.{Decides-eqb}
+use Rattle.catalogue.specs.Catalogues.{catalogue_list, Bytes}
+use Rattle.inspect.proofs.Again.{taken_faultless, refused_faulty}
+use Rattle.inspect.proofs.listing.is_written_again.Goals as goal
+use Rattle.inspect.proofs.listing.is_written_again.Goals.{in-Ok, in-Err}
 
-pub returns-in-Ok : goal.returns-in-Ok
-returns-in-Ok c =
+pub returns : goal.returns
+returns c =
     let bytes = c.args.bytes.now in
-    let len : ℕ = c.in-Ok.len in
-    let made_of = same_list c.new.result.bytes.now bytes c.new.result.mark 0 c.new.ensures.bytes c.new.ensures.mark in
-    let same = c.in-Ok.ensures.again bytes 0 c.hold_bytes.ensures (sym made_of) in
-    let whole : take (len - 0) c.write.new.buffer ≡ bytes = ap (λ (n : ℕ). take n c.write.new.buffer) (less len) ∙ same in
-    (slice_eq-Decides Decides-eqb (take (len - 0) c.write.new.buffer) bytes c.eq.result c.eq.ensures).1 whole
-    ∙ sym (taken_faultless (catalogue_list bytes 0) (length c.args.buffer.now) len (c.in-Ok.ensures.value ∙ ap (λ (es : List Entry). write_answer es (length c.args.buffer.now)) made_of))
-  where
-    less : (n : ℕ) → n - 0 ≡ n
-    less n = omega arith
-
-pub returns-in-Err : goal.returns-in-Err
-returns-in-Err c =
-    let bytes = c.args.bytes.now in
-    let room : ℕ = length c.args.buffer.now in
-    let made_of = same_list c.new.result.bytes.now bytes c.new.result.mark 0 c.new.ensures.bytes c.new.ensures.mark in
-    refused_faulty bytes 0 room c.in-Err.field-0 c.hold_bytes.ensures c.requires (c.in-Err.ensures.value ∙ ap (λ (es : List Entry). write_answer es room) made_of)
+    let small : Bytes bytes = λ k. let fits = c.type_inv.bytes k in omega arith in
+    let made_of = ap₂ catalogue_list c.new.ensures.bytes c.new.ensures.mark in
+    let room : length c.as_mut_slice-buffer.result.now ≡ length bytes = omega (arith, c.as_mut_slice-buffer.ensures.len, c.in_ok-room.ensures.len) in
+    let answer = rw (made_of, room) at c.write.ensures.value in
+    elim c.match-write.branch [
+      | in-Ok w ↦
+          w.again-is ∙ (slice_eq-Decides Decides-eqb (take w.in-Ok.len c.write.new.buffer) bytes w.eq-again.result w.eq-again.ensures).1 (w.in-Ok.ensures.again bytes 0 small (sym made_of))
+          ∙ sym (taken_faultless (catalogue_list bytes 0) (length bytes) w.in-Ok.len (sym w.in-Ok.is ∙ answer))
+      | in-Err w ↦ w.again-is ∙ refused_faulty bytes 0 w.in-Err.field-0 small (sym w.in-Err.is ∙ answer)
+    ]
