@@ -1,5 +1,5 @@
 // The contents of a catalogue: the count, and a line for each entry that names its body.
-ghost use Rattle.std.specs.Prelude.{◌≡◌, ◌+◌, ◌*◌, ◌<◌, ◌≤◌, true, false, length, take, drop, MatchOption};
+ghost use Rattle.std.specs.Prelude.{◌≡◌, ◌+◌, ◌-◌, ◌*◌, ◌<◌, ◌≤◌, true, false, length, take, drop, MatchOption};
 ghost use Rattle.numbers.specs.Bits.{possible};
 ghost use Rattle.catalogue.specs.Catalogues.{word_at, entries, readable, line_byte, start_of, size_of, due_start, line_right, form_of};
 ghost use Rattle.catalogue.specs.Handed.{viewed};
@@ -80,58 +80,76 @@ impl<'a> Contents<'a> {
         self.count
     }
 
-    // Whether there is an entry at a place counted from 1.
-    pub(crate) fn has(self, place: u16) -> bool
-        ensures { result ≡ possible (entries self.entry.bytes.now) place }
+    // The entry at a place counted from 1, if there is one.
+    pub(crate) fn at(self, place: u16) -> Option<Slot<'a>>
+        ensures { MatchOption result (possible (entries self.entry.bytes.now) place ≡ false)
+            (λ s. (possible (entries self.entry.bytes.now) place ≡ true) × (s.i ≡ place - 1) × (s.contents.bytes.now ≡ self.entry.bytes.now)) }
     {
-        (1..=self.count).contains(&place)
+        if !(1..=self.count).contains(&place) {
+            return None;
+        }
+        Some(Slot {
+            contents: self,
+            i: place - 1,
+        })
     }
+}
 
-    // The contents line of the entry i, counted from 0.
-    pub(crate) fn line(self, i: u16) -> Line
-        requires { i < self.count }
-        ensures start { result.start ≡ start_of self.entry.bytes.now i }
-        ensures size { result.size ≡ size_of self.entry.bytes.now i }
+// The entry i, counted from 0, of contents that have it.
+#[derive(Clone, Copy)]
+pub(crate) struct Slot<'a> {
+    contents: Contents<'a>,
+    i: u16,
+    ghost within: { i < contents.count },
+}
+
+impl<'a> Slot<'a> {
+    // The contents line of the entry.
+    pub(crate) fn line(self) -> Line
+        ensures start { result.start ≡ start_of self.entry.contents.bytes.now self.entry.i }
+        ensures size { result.size ≡ size_of self.entry.contents.bytes.now self.entry.i }
     {
-        let at = line_byte(i);
+        let at = line_byte(self.i);
         Line {
-            start: word(self.bytes, at),
-            size: word(self.bytes, at + 2),
+            start: word(self.contents.bytes, at),
+            size: word(self.contents.bytes, at + 2),
         }
     }
 
-    // Where the body i has to start: after the contents, or where the line before points.
-    fn due(self, i: u16) -> usize
-        requires { i < self.count }
-        ensures { result ≡ due_start self.entry.bytes.now i }
+    // Where the body has to start: after the contents, or where the line before points.
+    fn due(self) -> usize
+        ensures { result ≡ due_start self.entry.contents.bytes.now self.entry.i }
     {
-        match i {
-            0 => line_byte(self.count),
-            _ => self.line(i - 1).end(),
+        match self.i {
+            0 => line_byte(self.contents.count),
+            i => {
+                let contents = self.contents;
+                let before = Slot { contents, i: i - 1 };
+                before.line().end()
+            }
         }
     }
 
-    // Whether the line of the entry i names a body as it has to.
-    fn is_right(self, i: u16) -> bool
-        requires { i < self.count }
-        ensures { result ≡ line_right self.entry.bytes.now i }
+    // Whether the line names a body as it has to.
+    fn is_right(self) -> bool
+        ensures { result ≡ line_right self.entry.contents.bytes.now self.entry.i }
     {
-        let line = self.line(i);
-        line.start as usize == self.due(i)
+        let line = self.line();
+        let len = self.contents.bytes.len();
+        line.start as usize == self.due()
             && (3..=67).contains(&line.size)
-            && line.end() <= self.bytes.len()
-            && (i + 1 < self.count || line.end() == self.bytes.len())
+            && line.end() <= len
+            && (self.i + 1 < self.contents.count || line.end() == len)
     }
 
-    // The form of the entry i.
-    pub(crate) fn form(self, i: u16) -> Result<Form<&'a [u8]>, ByteFault>
-        requires { i < self.count }
-        ensures { viewed result ≡ form_of self.entry.bytes.now i }
+    // The form of the entry.
+    pub(crate) fn form(self) -> Result<Form<&'a [u8]>, ByteFault>
+        ensures { viewed result ≡ form_of self.entry.contents.bytes.now self.entry.i }
     {
-        if !self.is_right(i) {
-            return Err(at_byte(Cause::Line, line_byte(i)));
+        if !self.is_right() {
+            return Err(at_byte(Cause::Line, line_byte(self.i)));
         }
-        let line = self.line(i);
-        body::form(line.start, line.named(self.bytes))
+        let line = self.line();
+        body::form(line.start, line.named(self.contents.bytes))
     }
 }

@@ -70,11 +70,9 @@ impl<'a> Catalogue<'a> {
         ensures { handed result ≡ read_at self.now.bytes.now place }
     {
         let contents = Contents::read(self.bytes).ok_or(unread(place))?;
-        if !contents.has(place) {
-            return Err(Cause::Outside.into());
-        }
-        let start = contents.line(place - 1).start;
-        let form = contents.form(place - 1)?;
+        let slot = contents.at(place).ok_or(ByteFault::from(Cause::Outside))?;
+        let start = slot.line().start;
+        let form = slot.form()?;
         Ok(Body { place, start, form })
     }
 

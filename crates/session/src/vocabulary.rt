@@ -87,7 +87,7 @@ impl Vocabulary {
         }
     }
 
-    // The set of a list of terms, if all of them are in use.
+    // The set of a list of terms, if all of them are in use. A `for`, since of `try_fold` the check finds no proof.
     #[tactic(auto, using(std::proofs::lemmas::List::at_drop_more, std::proofs::lemmas::List::at_drop_all))]
     pub(crate) fn set_of(self, terms: &[Term]) -> Option<TermSet>
         ensures { result ≡ set_of self.terms terms.now }

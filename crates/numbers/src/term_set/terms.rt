@@ -24,7 +24,7 @@ impl TermSet {
     }
 }
 
-// The lowest member of a set from a number on.
+// The lowest member of a set from a number on. A `for`, since of a chain that ends with `find` the check finds no proof.
 fn first_from(set: TermSet, from: u8) -> Option<u8>
     ensures { MatchOption result (terms_from set from ≡ []) (λ n. (n < 65) × (terms_from set from ≡ term_of n ∷ terms_from set (n + 1))) }
 {
