@@ -7,7 +7,7 @@ use numbers::word_set::WordSet;
 use std::process::Abort;
 use std::test::Fail;
 
-// The set of these roles.
+// The set of these roles. It and the next are no one function with those of terms: what they share is one call of `fold`.
 fn roles(members: &[DirectedRole]) -> RoleSet {
     members
         .iter()

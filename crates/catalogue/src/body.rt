@@ -22,6 +22,7 @@ struct Field {
     fault: ByteFault,
 }
 
+// Methods and no `TryFrom`: their names say what a field is read as, which differs from kind to kind.
 impl Field {
     // The field that is read at the byte `at` of the catalogue.
     fn new(byte: u8, cause: Cause, at: usize) -> Field

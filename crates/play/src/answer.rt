@@ -52,7 +52,8 @@ impl Asked {
     }
 }
 
-// The answer of any shelf. It writes into bytes that are EE before.
+// The answer of any shelf. It writes into bytes that are EE before. A match and no closure, since what is asked is read from
+// a script.
 fn ask<S: Shelf>(
     heap: Global,
     session: &mut Session,

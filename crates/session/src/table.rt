@@ -4,8 +4,8 @@ ghost use Rattle.std.specs.List.{slice_get};
 
 use std::marker::Model;
 
-// The first `filled` places of the slice are filled. A contract sees the rows that fill the table and how many it has room
-// for.
+// The first `filled` places of the slice are filled: a length beside it, since a session works in memory that its caller
+// lends. A contract sees the rows that fill the table and how many it has room for.
 #[derive(Drop)]
 pub(crate) struct Table<'a, T> {
     places: &'a mut [T],

@@ -32,7 +32,8 @@ impl<'a> Session<'a> {
         found
     }
 
-    // The first missing result of a rule over contexts and needs.
+    // The first missing result of a rule over contexts and needs. Not one function with the one above: that would be told which
+    // table to go through, and which needs to pass over.
     fn by_need(&self, rule: NeedRule) -> Option<Finding<TermSet>>
         ensures { result ≡ by_need rule self.now }
     {
