@@ -1,1 +1,2 @@
 pub mod CatalogueBodies
+pub mod LeftLists

@@ -1,5 +1,5 @@
 -- What is found in the rows of a table, and how rows are put and changed. Assumes nothing.
-use Rattle.std.proofs.Common.{◌≡◌, ℕ, zero, suc, ◌+◌, ◌<◌, Bool, true, false, cond, List, [], ◌∷◌, ◌++◌, length, take, get_or, set, is_some, Some, None, Option, sym, refl, ap, ◌∙◌, ◌||◌, subst, add-one, arith}
+use Rattle.std.proofs.Common.{◌≡◌, ℕ, zero, suc, ◌+◌, ◌<◌, Bool, true, false, cond, List, [], ◌∷◌, ◌++◌, length, take, drop, get_or, set, is_some, Some, None, Option, sym, refl, ap, ◌∙◌, ◌||◌, subst, add-one, arith}
 use Rattle.std.specs.List.{slice_get, list_any, position, position_from}
 use Rattle.std.proofs.lemmas.List.Quantifiers.{position-Some}
 use Rattle.std.proofs.lemmas.Option.{slice_get_read}
@@ -12,6 +12,12 @@ take_set_in zero xs i x h = absurd (omega arith)
 take_set_in (suc n) [] i x h = absurd (omega arith)
 take_set_in (suc n) (y ∷ ys) zero x h = refl
 take_set_in {X} (suc n) (y ∷ ys) (suc i) x h = ap (λ (zs : List X). y ∷ zs) (take_set_in n ys i x (omega arith))
+
+-- what is left of a list at a place
+drop_at-suc : {X : Type 0} (xs : List X) (i : ℕ) (x : X) → At xs i x → drop i xs ≡ x ∷ drop (suc i) xs
+drop_at-suc [] i x a = absurd (none_some x a)
+drop_at-suc {X} (y ∷ ys) zero x a = ap (λ (z : X). z ∷ ys) (some_same y x a)
+drop_at-suc {X} (y ∷ ys) (suc i) x a = drop_at-suc ys i x a
 
 -- the place of what is found is the first position that passes
 abbrev place_of : {X : Type 0} → Option (ℕ × X) → Option ℕ

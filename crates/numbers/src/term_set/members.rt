@@ -1,5 +1,5 @@
 // What a term set has as members.
-ghost use Rattle.std.specs.Prelude.{◌≡◌, refl};
+ghost use Rattle.std.specs.Prelude.{refl};
 ghost use Rattle.std.proofs.Common.{lit≤, mod-eq_of_lt};
 ghost use Rattle.numbers.specs.TermSets.{term_word, term_number};
 ghost use Rattle.numbers.specs.SetsLawful.{same_terms};
