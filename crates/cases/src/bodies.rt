@@ -64,10 +64,7 @@ fn a_body_has_its_wrong_left_bytes(rt: HostRuntime) -> Result<(), Fail> {
 
 // What is wrong with the body at a place of these bytes, if anything is.
 fn body_fault(bytes: &[u8], place: u16) -> Option<ShelfFault> {
-    match Catalogue::new(bytes, 7).body(place) {
-        Ok(_) => None,
-        Err(fault) => Some(fault),
-    }
+    Catalogue::new(bytes, 7).body(place).err()
 }
 
 // A place with no body, and a body with a wrong line, kind or field, is refused as the entry is.

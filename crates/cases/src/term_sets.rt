@@ -4,6 +4,7 @@ use numbers::set::NumberSet;
 use numbers::term::Term;
 use numbers::term_set::TermSet;
 use numbers::word_set::WordSet;
+use std::alloc::{AllocError, Global};
 use std::test::Fail;
 
 // A term means something if its number is from 1 to 64.
@@ -48,6 +49,11 @@ fn a_term_out_of_range_is_no_member(rt: HostRuntime) {
     }
 }
 
+// The numbers of a set's terms, as they come.
+fn numbers_of(heap: Global, set: TermSet) -> Result<Vec<u8>, AllocError> {
+    set.terms().map(|term| term.0).collect(heap)
+}
+
 // The terms of a set come rising, each once, and none comes that means nothing.
 #[test]
 fn the_terms_of_a_set_rise(rt: HostRuntime) -> Result<(), Fail> {
@@ -59,16 +65,10 @@ fn the_terms_of_a_set_rise(rt: HostRuntime) -> Result<(), Fail> {
         (&[63, 64], &[63, 64]),
     ];
     for (numbers, expected) in cases {
-        let mut came = Vec::new(rt.alloc());
-        for term in terms(numbers).terms() {
-            came.push(term.0)?;
-        }
+        let came = numbers_of(rt.alloc(), terms(numbers))?;
         assert_eq!(rt; came.as_slice(), expected);
     }
-    let mut all = Vec::new(rt.alloc());
-    for term in all_terms().terms() {
-        all.push(term.0)?;
-    }
+    let all = numbers_of(rt.alloc(), all_terms())?;
     let expected: Vec<u8> = (1..=64u8).collect(rt.alloc())?;
     assert_eq!(rt; all.as_slice(), expected.as_slice());
     Ok(())
