@@ -18,7 +18,8 @@ fn put(room: &mut [u8], at: usize, bytes: &[u8]) -> usize
     end
 }
 
-// The length of a shelf's catalogue.
+// The length of a shelf's catalogue. A `for`, since of `map` and `sum` the check finds no proof: the closure owes that each entry
+// is well formed, and that the sum fits.
 #[tactic(auto, using(crate::proofs::Sizes::length_catalogue, crate::proofs::Sizes::bodies_short))]
 pub(crate) fn catalogue_length<S: Shelf>(shelf: &S) -> usize
     ensures { result ≡ length (catalogue_bytes (S.Shelf.list shelf.now)) }
