@@ -6,7 +6,7 @@ use Rattle.std.proofs.lemmas.List.{get_or_past}
 use Rattle.std.proofs.lemmas.Bool.Decides.{nat_tests}
 use Rattle.catalogue.specs.Bodies.{and_then, to_axiom}
 use Rattle.catalogue.specs.Catalogues.{entries, readable, start_of, form_of, axiom_of, catalogue_list}
-use Rattle.catalogue.specs.Handed.{part_of, in_place, body_at, stated}
+use Rattle.catalogue.specs.Handed.{part_of, body_at, stated}
 use Rattle.shelf.specs.Shelves.{Entry, placed, byteless, entry_at}
 use Rattle.shelf.specs.declared.fault.ByteFault.{ByteFault}
 use Rattle.shelf.specs.declared.fault.Cause.TheVariants.{Outside}
@@ -17,7 +17,7 @@ pub count_listed : (bs : List ℕ) (m : ℕ) → length (catalogue_list bs m) �
 count_listed bs m = grind (arith, length-map-range_with_len (λ i. placed m (suc i) (axiom_of bs i)) 0 (entries bs))
 
 -- what a form states, where it was read
-stated_part : (m p at : ℕ) (f : Result (Form (List ℕ)) ByteFault) → stated m (in_place m p (part_of p at f)) ≡ placed m p (and_then f (to_axiom at))
+stated_part : (m p at : ℕ) (f : Result (Form (List ℕ)) ByteFault) → stated m (placed m p (part_of p at f)) ≡ placed m p (and_then f (to_axiom at))
 stated_part m p at f = grind arith
 
 -- the entry at a place is what the body there states
