@@ -8,7 +8,7 @@ use Rattle.std.proofs.lemmas.Bool.Decides.{nat_tests}
 use Rattle.numbers.specs.Bits.{possible}
 use Rattle.catalogue.specs.Bodies.{and_then, to_axiom}
 use Rattle.catalogue.specs.Catalogues.{entries, readable, start_of, form_of, axiom_of, catalogue_list}
-use Rattle.catalogue.specs.Handed.{part_of, in_place, body_at, stated}
+use Rattle.catalogue.specs.Handed.{part_of, body_at, stated}
 use Rattle.shelf.specs.Faults.{at_byte, in_shelf, origin}
 use Rattle.shelf.specs.Shelves.{Entry, placed, byteless, entry_at}
 use Rattle.shelf.specs.declared.fault.ByteFault.{ByteFault}
@@ -22,13 +22,13 @@ count_listed bs m = grind (arith, length-map-range_with_len (λ i. placed m (suc
 -- what is handed out at a place outside the list, and at one on it
 module _ (bs : List ℕ) (m p : ℕ) where
   pub body_outside : readable bs ≡ true → possible (entries bs) p ≡ false → body_at bs m p ≡ Err (in_shelf (at_byte Outside 0) (origin m p))
-  body_outside h o = ap (in_place m p) (cond-true (readable bs) _ _ h ∙ cond-false (possible (entries bs) p) _ _ o)
+  body_outside h o = ap (placed m p) (cond-true (readable bs) _ _ h ∙ cond-false (possible (entries bs) p) _ _ o)
 
-  pub body_inside : readable bs ≡ true → possible (entries bs) p ≡ true → body_at bs m p ≡ in_place m p (part_of p (start_of bs (p - 1)) (form_of bs (p - 1)))
-  body_inside h o = ap (in_place m p) (cond-true (readable bs) _ _ h ∙ cond-true (possible (entries bs) p) _ _ o)
+  pub body_inside : readable bs ≡ true → possible (entries bs) p ≡ true → body_at bs m p ≡ placed m p (part_of p (start_of bs (p - 1)) (form_of bs (p - 1)))
+  body_inside h o = ap (placed m p) (cond-true (readable bs) _ _ h ∙ cond-true (possible (entries bs) p) _ _ o)
 
 -- what a form states, where it was read
-stated_part : (m p at : ℕ) (f : Result (Form (List ℕ)) ByteFault) → stated m (in_place m p (part_of p at f)) ≡ placed m p (and_then f (to_axiom at))
+stated_part : (m p at : ℕ) (f : Result (Form (List ℕ)) ByteFault) → stated m (placed m p (part_of p at f)) ≡ placed m p (and_then f (to_axiom at))
 stated_part m p at f = grind arith
 
 -- the entry at a place is what the body there states

@@ -19,15 +19,6 @@ abbrev pub and_then : {X Y E : Type 0} → Result X E → (X → Result Y E) →
 and_then (Ok x) f = f x
 and_then (Err e) f = Err e
 
--- the same form over another kind of left side
-abbrev pub map_left : {L M : Type 0} → (L → M) → Form L → Form M
-map_left f (Under l t) = Under (f l) t
-map_left f (Nothing l) = Nothing (f l)
-map_left f (Exists l r x) = Exists (f l) r x
-map_left f (Only l r t) = Only (f l) r t
-map_left f (AtMostOne l r x) = AtMostOne (f l) r x
-map_left f (RoleUnder r q) = RoleUnder r q
-
 -- a forward role is its number, a backward one 128 plus its number
 abbrev pub role_of : ℕ → Option DirectedRole
 role_of b = cond (possible 16 b) (Some (Forward (record { 0 = b }))) (cond (possible 16 (b - 128)) (Some (Backward (record { 0 = b - 128 }))) None)

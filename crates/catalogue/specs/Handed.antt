@@ -2,9 +2,10 @@
 use Rattle.std.specs.Prelude.{ℕ, ◌-◌, cond, List, Ok, Err, Result, ◌==◌}
 use Rattle.std.specs.Borrow.{Bor}
 use Rattle.numbers.specs.Bits.{possible}
-use Rattle.catalogue.specs.Bodies.{map_left, to_axiom}
+use Rattle.catalogue.specs.Bodies.{to_axiom}
 use Rattle.catalogue.specs.Catalogues.{entries, readable, start_of, form_of}
-use Rattle.shelf.specs.Faults.{at_byte, in_shelf, origin}
+use Rattle.shelf.specs.Faults.{at_byte}
+use Rattle.shelf.specs.Forms.{map_left}
 use Rattle.shelf.specs.Shelves.{Entry, placed}
 use Rattle.catalogue.specs.declared.reader.Body.{Body}
 use Rattle.shelf.specs.declared.fault.ByteFault.{ByteFault}
@@ -42,14 +43,9 @@ read_at bs p =
     (cond (possible (entries bs) p) (part_of p (start_of bs (p - 1)) (form_of bs (p - 1))) (Err (at_byte Outside 0)))
     (Err (at_byte (cond (p == 1) Contents Outside) 0))
 
--- the same in a shelf with the mark m: a fault with the place where it stands
-abbrev pub in_place : ℕ → ℕ → Result Part ByteFault → Result Part ShelfFault
-in_place m p (Ok b) = Ok b
-in_place m p (Err e) = Err (in_shelf e (origin m p))
-
 -- the body at a place of a catalogue with the mark m
 abbrev pub body_at : List ℕ → ℕ → ℕ → Result Part ShelfFault
-body_at bs m p = in_place m p (read_at bs p)
+body_at bs m p = placed m p (read_at bs p)
 
 -- the entry of a shelf with the mark m that such a body gives
 abbrev pub stated : ℕ → Result Part ShelfFault → Entry

@@ -164,33 +164,8 @@ fn left_terms(at: u16, left: &[u8]) -> Result<TermSet, ByteFault>
 }
 
 // The axiom that a form states, whose body starts at the byte `at`.
-// The six forms stand here: a function that maps the left side of any form would list them too, for this caller alone.
 pub(crate) fn axiom(at: u16, form: Form<&[u8]>) -> Result<Axiom, ByteFault>
     ensures { result ≡ to_axiom at (seen form.entry) }
 {
-    Ok(match form {
-        Form::Under { left, term } => Form::Under {
-            left: left_terms(at, left)?,
-            term,
-        },
-        Form::Nothing { left } => Form::Nothing {
-            left: left_terms(at, left)?,
-        },
-        Form::Exists { left, role, filler } => Form::Exists {
-            left: left_terms(at, left)?,
-            role,
-            filler,
-        },
-        Form::Only { left, role, term } => Form::Only {
-            left: left_terms(at, left)?,
-            role,
-            term,
-        },
-        Form::AtMostOne { left, role, filler } => Form::AtMostOne {
-            left: left_terms(at, left)?,
-            role,
-            filler,
-        },
-        Form::RoleUnder { lower, upper } => Form::RoleUnder { lower, upper },
-    })
+    form.try_map_left(|left| left_terms(at, left))
 }

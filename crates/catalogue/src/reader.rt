@@ -80,12 +80,8 @@ impl<'a> Catalogue<'a> {
     pub fn body(&self, place: u16) -> Result<Body<'a>, ShelfFault>
         ensures { handed result ≡ body_at self.now.bytes.now self.now.mark place }
     {
-        let origin = Origin {
-            mark: self.mark,
-            place,
-        };
-        self.read(place)
-            .map_err(|fault| ShelfFault { fault, origin })
+        let mark = self.mark;
+        located(self.read(place), Origin { mark, place })
     }
 }
 

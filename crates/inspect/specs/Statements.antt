@@ -4,6 +4,7 @@ use Rattle.numbers.specs.Roles.{role_text}
 use Rattle.numbers.specs.declared.term.Term.{Term}
 use Rattle.numbers.specs.declared.term_set.TermSet.{TermSet}
 use Rattle.shelf.specs.Axioms.{Axiom}
+use Rattle.shelf.specs.Forms.{filler_number}
 use Rattle.writer.specs.Writing.{left_bytes}
 use Rattle.shelf.specs.declared.form.Form.TheVariants.{Under, Nothing, Exists, Only, AtMostOne, RoleUnder}
 
@@ -21,9 +22,9 @@ so_far (n ∷ ns) = decimal n ++ spaced ns
 abbrev pub terms_text : List ℕ → List ℕ
 terms_text ns = cond (length ns == 0) (codes "all") (so_far ns)
 
+-- a filler's term by its number, or 0 for everything
 abbrev pub filler_text : Option Term → List ℕ
-filler_text None = codes "0"
-filler_text (Some t) = decimal t.0
+filler_text x = decimal (filler_number x)
 
 -- the left side of an axiom
 unfoldable pub left_text : TermSet → List ℕ

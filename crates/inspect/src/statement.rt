@@ -1,26 +1,11 @@
 // What an axiom states, as text.
 ghost use Rattle.std.specs.Prelude.{Some};
-ghost use Rattle.inspect.specs.Statements.{filler_text, left_text, statement};
+ghost use Rattle.inspect.specs.Statements.{left_text, statement};
 
 use numbers::term::Term;
 use numbers::term_set::TermSet;
-use shelf::form::{Axiom, Form};
+use shelf::form::{Axiom, Form, filler_number};
 use std::fmt;
-
-// A term, or 0 for everything.
-#[derive(Clone, Copy)]
-struct FillerText(Option<Term>);
-
-impl fmt::Display for FillerText {
-    ghost output = { λ t. Some (filler_text t.0) };
-
-    fn fmt<W: fmt::Write>(&self, f: &mut fmt::Formatter<W>) -> fmt::Result {
-        match self.0 {
-            None => f.write_str("0"),
-            Some(Term(n)) => write!(f, "{n}"),
-        }
-    }
-}
 
 // The terms of a left side, rising, or `all` where there is none.
 #[derive(Clone, Copy)]
@@ -54,14 +39,14 @@ impl fmt::Display for Statement {
             Form::Under { left, term } => write!(f, "{} under {}", LeftText(left), term.0),
             Form::Nothing { left } => write!(f, "{} under nothing", LeftText(left)),
             Form::Exists { left, role, filler } => {
-                let (left, filler) = (LeftText(left), FillerText(filler));
+                let (left, filler) = (LeftText(left), filler_number(filler));
                 write!(f, "{left} some {role} {filler}")
             }
             Form::Only { left, role, term } => {
                 write!(f, "{} only {role} {}", LeftText(left), term.0)
             }
             Form::AtMostOne { left, role, filler } => {
-                let (left, filler) = (LeftText(left), FillerText(filler));
+                let (left, filler) = (LeftText(left), filler_number(filler));
                 write!(f, "{left} at most one {role} {filler}")
             }
             Form::RoleUnder { lower, upper } => write!(f, "{lower} under {upper}"),

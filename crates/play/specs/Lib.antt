@@ -1,1 +1,2 @@
 pub mod Singles
+pub mod Sources

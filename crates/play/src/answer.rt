@@ -1,5 +1,5 @@
 // The answers of shelves and of the session to what a script asks.
-use crate::script::{Asked, Call, Question, Source};
+use crate::script::{Asked, Call, Question};
 use crate::text::{EntryText, HexText, RefusalText};
 use session::refusal::Refusal;
 use session::session::Session;
@@ -45,10 +45,7 @@ impl Call {
 impl Asked {
     // What the shelf answers, or the session that takes it.
     fn answer(&self, heap: Global, session: &mut Session) -> Result<Answer, AllocError> {
-        match &self.source {
-            Source::Alone(shelf) => ask(heap, session, self.question, shelf),
-            Source::Joined(shelf) => ask(heap, session, self.question, shelf),
-        }
+        ask(heap, session, self.question, &self.source)
     }
 }
 

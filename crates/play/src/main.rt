@@ -7,6 +7,7 @@ mod records;
 mod script;
 mod single;
 mod sitting;
+mod source;
 mod text;
 
 use sitting::Sitting;

@@ -2,6 +2,7 @@
 use crate::opening;
 use crate::records::records;
 use crate::single::Single;
+use crate::source::Source;
 use hex::FromHexError;
 use numbers::term::Term;
 use session::sizes::Sizes;
@@ -48,13 +49,6 @@ pub(crate) enum Question {
     Entry(u16),
     Write(usize),
     Take,
-}
-
-// A shelf as the script gives it: one alone, or two that are joined.
-#[derive(Drop)]
-pub(crate) enum Source {
-    Alone(Single),
-    Joined(Joined<Single, Single>),
 }
 
 // A question and the shelf that it is asked of.

@@ -4,7 +4,7 @@ use numbers::term::Term;
 use numbers::term_set::TermSet;
 use session::refusal::Refusal;
 use shelf::fault::{Entry, ShelfFault};
-use shelf::form::{Axiom, Form};
+use shelf::form::{Axiom, Form, filler_number};
 use std::fmt;
 
 // A set of terms in braces, rising.
@@ -23,11 +23,6 @@ impl fmt::Display for SetText {
         }
         f.write_str("}")
     }
-}
-
-// The number of a term, or 0 for everything.
-fn filler_number(filler: Option<Term>) -> u8 {
-    filler.map_or(0, |term| term.0)
 }
 
 // An axiom as a short sentence.

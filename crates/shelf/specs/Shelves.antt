@@ -11,8 +11,8 @@ use Rattle.shelf.specs.declared.fault.ShelfFault.{ShelfFault}
 abbrev pub Entry : Type 0
 Entry = Result Axiom ShelfFault
 
--- what was read of a shelf with the mark m at the place p, as an entry
-abbrev pub placed : ℕ → ℕ → Result Axiom ByteFault → Entry
+-- what was read of a shelf with the mark m at the place p; a fault gets the place where it stands
+abbrev pub placed : {X : Type 0} → ℕ → ℕ → Result X ByteFault → Result X ShelfFault
 placed m p (Ok a) = Ok a
 placed m p (Err f) = Err (in_shelf f (origin m p))
 

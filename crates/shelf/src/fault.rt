@@ -77,8 +77,8 @@ impl From<(ByteFault, Origin)> for ShelfFault {
 // An axiom, or what is wrong in its place.
 pub type Entry = Result<Axiom, ShelfFault>;
 
-// What was read at a place, as the shelf's entry there.
-pub fn located(read: Result<Axiom, ByteFault>, origin: Origin) -> Entry
+// What was read at a place, where a fault says in which shelf and at which place it stands.
+pub fn located<T>(read: Result<T, ByteFault>, origin: Origin) -> Result<T, ShelfFault>
     ensures { result ≡ placed origin.mark origin.place read }
 {
     read.map_err(|fault| ShelfFault::from((fault, origin)))

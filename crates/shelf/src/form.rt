@@ -1,6 +1,7 @@
 // The six forms of an axiom.
-ghost use Rattle.std.specs.Prelude.{◌≡◌, Decides};
+ghost use Rattle.std.specs.Prelude.{◌≡◌, Decides, IfSome};
 ghost use Rattle.shelf.specs.Axioms.{is_filler, roles_sound, right_sound};
+ghost use Rattle.shelf.specs.Forms.{filler_number, left_of, MapsLeft};
 
 use numbers::role::DirectedRole;
 use numbers::term::Term;
@@ -54,6 +55,13 @@ pub fn same(a: &Axiom, b: &Axiom) -> bool
     *a == *b
 }
 
+// The number of a filler's term, or 0 for everything.
+pub fn filler_number(filler: Option<Term>) -> u8
+    ensures { result ≡ filler_number filler }
+{
+    filler.map_or(0, |term| term.0)
+}
+
 // Whether the filler is everything, or a term that means something.
 fn filler_in_range(filler: Option<Term>) -> bool
     ensures { result ≡ is_filler filler }
@@ -62,6 +70,25 @@ fn filler_in_range(filler: Option<Term>) -> bool
 }
 
 impl<L> Form<L> {
+    // The same form over what the function makes of the left side, or the function's error.
+    pub fn try_map_left<M, E, F: FnOnce(L) -> Result<M, E>>(self, f: F) -> Result<Form<M>, E>
+        requires { IfSome (left_of self) (F.pre f) }
+        ensures { MapsLeft (F.post f) self result }
+    {
+        match self {
+            Form::Under { left, term } => f(left).map(|left| Form::Under { left, term }),
+            Form::Nothing { left } => f(left).map(|left| Form::Nothing { left }),
+            Form::Exists { left, role, filler } => {
+                f(left).map(|left| Form::Exists { left, role, filler })
+            }
+            Form::Only { left, role, term } => f(left).map(|left| Form::Only { left, role, term }),
+            Form::AtMostOne { left, role, filler } => {
+                f(left).map(|left| Form::AtMostOne { left, role, filler })
+            }
+            Form::RoleUnder { lower, upper } => Ok(Form::RoleUnder { lower, upper }),
+        }
+    }
+
     // Whether every role has a number from 1 to 16.
     pub fn roles_in_range(&self) -> bool
         ensures { result ≡ roles_sound self.now }

@@ -8,8 +8,9 @@ use Rattle.numbers.specs.Terms.{is_term}
 use Rattle.numbers.specs.declared.role.DirectedRole.{DirectedRole}
 use Rattle.numbers.specs.declared.term.Term.{Term}
 use Rattle.shelf.specs.Axioms.{Axiom, sound, is_filler}
+use Rattle.shelf.specs.Forms.{filler_number}
 use Rattle.catalogue.specs.Bodies.{and_then, role_of, term_of, filler_of, zero_of, read_fields, read_form, to_axiom}
-use Rattle.writer.specs.Writing.{role_byte, filler_byte, form_bytes, body_bytes}
+use Rattle.writer.specs.Writing.{role_byte, form_bytes, body_bytes}
 use Rattle.shelf.specs.declared.fault.ByteFault.{ByteFault}
 use Rattle.shelf.specs.declared.form.Form.{Form}
 use Rattle.shelf.specs.declared.form.Form.TheVariants.{Under, Nothing, Exists, Only, AtMostOne, RoleUnder}
@@ -24,7 +25,7 @@ role_reads r h = grind (arith, nat_tests)
 term_reads : (t : Term) → is_term t ≡ true → term_of t.0 ≡ Some t
 term_reads t h = grind (arith, nat_tests)
 
-filler_reads : (x : Option Term) → is_filler x ≡ true → filler_of (filler_byte x) ≡ Some x
+filler_reads : (x : Option Term) → is_filler x ≡ true → filler_of (filler_number x) ≡ Some x
 filler_reads x h = grind (arith, nat_tests)
 
 -- the body of an axiom reads as the axiom
@@ -45,7 +46,7 @@ role_writes b r e = grind (arith, nat_tests)
 term_writes : (b : ℕ) (t : Term) → term_of b ≡ Some t → t.0 ≡ b
 term_writes b t e = grind (arith, nat_tests)
 
-filler_writes : (b : ℕ) (x : Option Term) → filler_of b ≡ Some x → filler_byte x ≡ b
+filler_writes : (b : ℕ) (x : Option Term) → filler_of b ≡ Some x → filler_number x ≡ b
 filler_writes b x e = grind (arith, nat_tests)
 
 zero_writes : (b : ℕ) (u : Unit {0}) → zero_of b ≡ Some u → 0 ≡ b

@@ -1,13 +1,13 @@
 -- The catalogue that a shelf is written as. Assumes nothing.
-use Rattle.std.specs.Prelude.{ℕ, ◌+◌, ◌*◌, ◌/◌, ◌%◌, Bool, cond, ◌&&◌, List, [], ◌∷◌, ◌++◌, map, length, take, drop, Some, None, Ok, Err, is_ok, Option, Result, nat_le}
+use Rattle.std.specs.Prelude.{ℕ, ◌+◌, ◌*◌, ◌/◌, ◌%◌, Bool, cond, ◌&&◌, List, [], ◌∷◌, ◌++◌, map, length, take, drop, Ok, Err, is_ok, Result, nat_le}
 use Rattle.std.specs.List.{concat, list_all}
 use Rattle.numbers.specs.TermSets.{term_number}
 use Rattle.numbers.specs.TermLists.{terms_of}
 use Rattle.numbers.specs.declared.role.DirectedRole.{DirectedRole}
 use Rattle.numbers.specs.declared.role.DirectedRole.TheVariants.{Forward, Backward}
-use Rattle.numbers.specs.declared.term.Term.{Term}
 use Rattle.numbers.specs.declared.term_set.TermSet.{TermSet}
 use Rattle.shelf.specs.Axioms.{Axiom}
+use Rattle.shelf.specs.Forms.{filler_number}
 use Rattle.shelf.specs.Shelves.{Entry}
 use Rattle.shelf.specs.declared.form.Form.{Form}
 use Rattle.shelf.specs.declared.form.Form.TheVariants.{Under, Nothing, Exists, Only, AtMostOne, RoleUnder}
@@ -27,10 +27,6 @@ abbrev pub role_byte : DirectedRole → ℕ
 role_byte (Forward r) = r.0
 role_byte (Backward r) = 128 + r.0
 
-abbrev pub filler_byte : Option Term → ℕ
-filler_byte None = 0
-filler_byte (Some t) = t.0
-
 -- the terms of a set, rising
 abbrev pub left_bytes : TermSet → List ℕ
 left_bytes s = map term_number (terms_of s)
@@ -39,9 +35,9 @@ left_bytes s = map term_number (terms_of s)
 abbrev pub form_bytes : {L : Type 0} → (L → List ℕ) → Form L → List ℕ
 form_bytes left (Under l t) = 1 ∷ 0 ∷ t.0 ∷ left l
 form_bytes left (Nothing l) = 2 ∷ 0 ∷ 0 ∷ left l
-form_bytes left (Exists l r x) = 3 ∷ role_byte r ∷ filler_byte x ∷ left l
+form_bytes left (Exists l r x) = 3 ∷ role_byte r ∷ filler_number x ∷ left l
 form_bytes left (Only l r t) = 4 ∷ role_byte r ∷ t.0 ∷ left l
-form_bytes left (AtMostOne l r x) = 5 ∷ role_byte r ∷ filler_byte x ∷ left l
+form_bytes left (AtMostOne l r x) = 5 ∷ role_byte r ∷ filler_number x ∷ left l
 form_bytes left (RoleUnder r q) = 6 ∷ role_byte r ∷ role_byte q ∷ []
 
 -- the body of an axiom

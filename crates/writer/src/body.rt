@@ -3,7 +3,7 @@ ghost use Rattle.std.specs.Prelude.{◌≡◌, true, ◌++◌};
 ghost use Rattle.numbers.specs.Roles.{is_role};
 ghost use Rattle.shelf.specs.Axioms.{sound};
 ghost use Rattle.shelf.specs.Shelves.{sound_entry};
-ghost use Rattle.writer.specs.Writing.{role_byte, filler_byte, left_bytes, body_bytes, entry_bytes};
+ghost use Rattle.writer.specs.Writing.{role_byte, left_bytes, body_bytes, entry_bytes};
 
 use arrayvec::ArrayVec;
 use numbers::role::{DirectedRole, Role};
@@ -11,13 +11,13 @@ use numbers::set::NumberSet;
 use numbers::term::Term;
 use numbers::term_set::TermSet;
 use shelf::fault::Entry;
-use shelf::form::{Axiom, Form};
+use shelf::form::{Axiom, Form, filler_number};
 
 // The bytes of a body: the kind, the two fields and the left list.
 pub(crate) type Body = ArrayVec<u8, 67>;
 
-// A role as a byte. This and the next are no `From`, which may only be written in the crate of one of its types; a trait
-// of our own for them would be no plainer.
+// A role as a byte. This is no `From`, which may only be written in the crate of one of its types; a trait of our own
+// for it would be no plainer.
 fn role_byte(role: DirectedRole) -> u8
     requires { is_role role ≡ true }
     ensures { result ≡ role_byte role }
@@ -26,13 +26,6 @@ fn role_byte(role: DirectedRole) -> u8
         DirectedRole::Forward(Role(n)) => n,
         DirectedRole::Backward(Role(n)) => 128 + n,
     }
-}
-
-// A filler as a byte, 0 for everything.
-fn filler_byte(filler: Option<Term>) -> u8
-    ensures { result ≡ filler_byte filler }
-{
-    filler.map_or(0, |term| term.0)
 }
 
 // The first three bytes of an axiom's body, its kind and its two fields, and the set of its left list. The kinds are
@@ -45,9 +38,12 @@ fn head_and_left(axiom: Axiom) -> ([u8; 3], TermSet)
     match axiom {
         Form::Under { left, term } => ([1, 0, term.0], left),
         Form::Nothing { left } => ([2, 0, 0], left),
-        Form::Exists { left, role, filler } => ([3, role_byte(role), filler_byte(filler)], left),
+        Form::Exists { left, role, filler } => ([3, role_byte(role), filler_number(filler)], left),
         Form::Only { left, role, term } => ([4, role_byte(role), term.0], left),
-        Form::AtMostOne { left, role, filler } => ([5, role_byte(role), filler_byte(filler)], left),
+        Form::AtMostOne { left, role, filler } => (
+            [5, role_byte(role), filler_number(filler)],
+            left,
+        ),
         Form::RoleUnder { lower, upper } => (
             [6, role_byte(lower), role_byte(upper)],
             TermSet::empty(),
