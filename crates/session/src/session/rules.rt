@@ -112,11 +112,7 @@ impl<'a> Session<'a> {
     pub(super) fn missing(&self, finding: Finding<TermSet>) -> Option<Finding<TermSet>>
         ensures { result ≡ missing words self.now finding }
     {
-        if self.stores(&finding) {
-            None
-        } else {
-            Some(finding)
-        }
+        (!self.stores(&finding)).then_some(finding)
     }
 
     // What a rule gives at a context and an axiom.

@@ -94,9 +94,7 @@ impl<'a> Session<'a> {
     ) -> Option<Finding<TermSet>>
         ensures { result ≡ with_others rule self.now place «axiom».now need.now }
     {
-        let Some(owner) = self.onward(rule, place, axiom, need) else {
-            return None;
-        };
+        let owner = self.onward(rule, place, axiom, need)?;
         for other in self.needs.all() {
             if other.context != owner {
                 continue;

@@ -14,16 +14,16 @@ returns-then-is_some c =
     let i = c.args.place in
     let x = c.args.«axiom».now in
     let d = c.args.need.now in
-    let k = c.in-Some.owner in
+    let k = c.in_ok-owner.owner in
     let o = c.other-item.result in
     when_left (λ n f. eqb f.context k) (λ n f. at_pair rule s i x d f) _ s.needs c.loop-other.other-index o _ (search rules) c.loop-other.invariant (omega arith) c.other-item.is
     (eq-eqb o.context k c.if-other-owner.false) c.at_pair-found.ensures c.if-is_some.ensures
-    ∙ ap (λ (p : Option ℕ). given p (λ k. first 0 s.needs (pair_other s rule i x d k))) c.in-Some.ensures
+    ∙ ap (λ (p : Option ℕ). given p (λ k. first 0 s.needs (pair_other s rule i x d k))) c.in_ok-owner.ensures
 
 pub returns : goal.returns
 unfolding given
 returns c =
     let s = c.args.self.now in
     let step = pair_other s c.args.rule c.args.place c.args.«axiom».now c.args.need.now in
-    first_none (step c.in-Some.owner) _ s.needs c.loop-other.other-index (search rules) c.loop-other.invariant (omega arith)
-    ∙ ap (λ (p : Option ℕ). given p (λ k. first 0 s.needs (step k))) c.in-Some.ensures
+    first_none (step c.in_ok-owner.owner) _ s.needs c.loop-other.other-index (search rules) c.loop-other.invariant (omega arith)
+    ∙ ap (λ (p : Option ℕ). given p (λ k. first 0 s.needs (step k))) c.in_ok-owner.ensures
