@@ -139,11 +139,7 @@ impl<'a> Session<'a> {
         if !self.contexts.is_free() {
             return Err(Refusal::NoContextPlace);
         }
-        self.contexts.append(Context {
-            set,
-            held: set,
-            void: false,
-        });
+        self.contexts.append(Context::new(set));
         self.rest = false;
         Ok(self.contexts.len())
     }

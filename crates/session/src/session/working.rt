@@ -64,11 +64,7 @@ impl<'a> Session<'a> {
         ensures { self.new ≡ added words self.old finding }
     {
         match finding {
-            Finding::Fresh { set } => self.contexts.append(Context {
-                set,
-                held: set,
-                void: false,
-            }),
+            Finding::Fresh { set } => self.contexts.append(Context::new(set)),
             Finding::Held { context, terms } => {
                 if let Some(row) = self.contexts.get(context) {
                     let held = row.held.union(terms);
