@@ -10,6 +10,7 @@ ghost use Rattle.session.specs.Opening.{opened};
 ghost use Rattle.session.specs.Taking.{taking, take_answer, take_state};
 ghost use Rattle.session.specs.Wanting.{want_place, want_stored, want_answer, want_state};
 
+mod live;
 mod rules;
 mod search;
 pub mod working;
