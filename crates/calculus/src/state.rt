@@ -1,4 +1,6 @@
 // What has been worked out: contexts, the needs that belong to them, and the results that add to them.
+ghost use Rattle.std.specs.Prelude.{◌≡◌, false};
+
 use numbers::role_set::RoleSet;
 
 // A set of terms, what every thing that carries the set is known to carry too, and whether no thing can carry it.
@@ -7,6 +9,21 @@ pub struct Context<S> {
     pub set: S,
     pub held: S,
     pub void: bool,
+}
+
+impl<S: Copy> Context<S> {
+    // A context of a set of which nothing else is known yet: it holds its set, and it is not void.
+    pub fn new(set: S) -> Context<S>
+        ensures set { result.set ≡ set }
+        ensures held { result.held ≡ set }
+        ensures void { result.void ≡ false }
+    {
+        Context {
+            set,
+            held: set,
+            void: false,
+        }
+    }
 }
 
 // From every thing that carries the set of a context, all these roles lead to one thing that carries all these

@@ -44,11 +44,7 @@ impl Tables {
         } = sizes.allowed();
         let terms = TermSet::empty();
         let axiom = Form::Nothing { left: terms };
-        let context = Context {
-            set: terms,
-            held: terms,
-            void: false,
-        };
+        let context = Context::new(terms);
         let need = Need {
             context: 0,
             roles: RoleSet::empty(),

@@ -1,6 +1,7 @@
 pub mod Bridges
 pub mod Firsts
 pub mod InUse
+pub mod Lefts
 pub mod RestLaws
 pub mod RunLaws
 pub mod ScanSteps

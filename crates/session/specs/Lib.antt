@@ -1,3 +1,4 @@
+pub mod Living
 pub mod Models
 pub mod Opening
 pub mod Refusals

@@ -10,6 +10,7 @@ ghost use Rattle.session.specs.Opening.{opened};
 ghost use Rattle.session.specs.Taking.{taking, take_answer, take_state};
 ghost use Rattle.session.specs.Wanting.{want_place, want_stored, want_answer, want_state};
 
+mod live;
 mod rules;
 mod search;
 pub mod working;
@@ -139,11 +140,7 @@ impl<'a> Session<'a> {
         if !self.contexts.is_free() {
             return Err(Refusal::NoContextPlace);
         }
-        self.contexts.append(Context {
-            set,
-            held: set,
-            void: false,
-        });
+        self.contexts.append(Context::new(set));
         self.rest = false;
         Ok(self.contexts.len())
     }

@@ -28,7 +28,7 @@ impl Sizes {
     pub fn check(self) -> Result<(), Refusal>
         ensures { result ≡ opening self.terms self.roles self.axioms self.contexts self.needs }
     {
-        if self.terms < 1 || self.terms > 64 || self.roles > 16 {
+        if !(1..=64).contains(&self.terms) || self.roles > 16 {
             return Err(Refusal::Numbers);
         }
         if self.axioms > 2048 || self.contexts > 1024 || self.needs > 4096 {

@@ -83,12 +83,12 @@ impl<'a, T: Copy> Table<'a, T> {
 
     // Puts another row at a filled place counted from 0.
     #[tactic(auto, using(crate::proofs::TableRows::take_set_in))]
-    pub(crate) fn set(&mut self, i: u16, row: T)
+    pub(crate) fn set(&mut self, i: usize, row: T)
         requires { i < length self.old.rows }
         ensures rows { self.new.rows ≡ slice_set self.old.rows i row }
         ensures room { self.new.room ≡ self.old.room }
     {
-        put(&mut *self.places, i as usize, row);
+        put(&mut *self.places, i, row);
     }
 }
 

@@ -112,11 +112,7 @@ impl<'a> Session<'a> {
     pub(super) fn missing(&self, finding: Finding<TermSet>) -> Option<Finding<TermSet>>
         ensures { result ≡ missing words self.now finding }
     {
-        if self.stores(&finding) {
-            None
-        } else {
-            Some(finding)
-        }
+        (!self.stores(&finding)).then_some(finding)
     }
 
     // What a rule gives at a context and an axiom.
@@ -160,10 +156,13 @@ impl<'a> Session<'a> {
     {
         match rule {
             NeedRule::Target => self.missing(Finding::Fresh { set: need.terms }),
-            NeedRule::VoidTarget => match self.target(need) {
-                Some((_, target)) if target.void => self.missing(Finding::Void { context: place }),
-                _ => None,
-            },
+            NeedRule::VoidTarget => {
+                let (_, target) = self.target(need)?;
+                if !target.void {
+                    return None;
+                }
+                self.missing(Finding::Void { context: place })
+            }
         }
     }
 
@@ -213,13 +212,16 @@ impl<'a> Session<'a> {
                     },
                 }),
             (EdgeRule::OnlyUp, Form::Only { left, role, term })
-                if need.roles.contains(role.turned()) => match self.target(need) {
-                Some((_, target)) if target.held.includes(left) => self.missing(Finding::Held {
+                if need.roles.contains(role.turned()) => {
+                let (_, target) = self.target(need)?;
+                if !target.held.includes(left) {
+                    return None;
+                }
+                self.missing(Finding::Held {
                     context: place,
                     terms: TermSet::only(term),
-                }),
-                _ => None,
-            },
+                })
+            }
             (EdgeRule::WithOthers(rule), _) => self.with_others(rule, place, axiom, need),
             _ => None,
         }
@@ -239,17 +241,14 @@ impl<'a> Session<'a> {
             return None;
         };
         match rule {
-            PairRule::Unite if need.roles.contains(role) => match self.target(need) {
-                Some((_, target)) if target.held.includes(filler_set(filler)) => Some(place),
-                _ => None,
-            },
-            PairRule::BackTerms | PairRule::BackRoles if need.roles.contains(role.turned()) =>
-                match self.target(need) {
-                    Some((owner, target)) if target.held.includes(left) && !target.void => Some(
-                        owner,
-                    ),
-                    _ => None,
-                },
+            PairRule::Unite if need.roles.contains(role) => {
+                let (_, target) = self.target(need)?;
+                target.held.includes(filler_set(filler)).then_some(place)
+            }
+            PairRule::BackTerms | PairRule::BackRoles if need.roles.contains(role.turned()) => {
+                let (owner, target) = self.target(need)?;
+                (target.held.includes(left) && !target.void).then_some(owner)
+            }
             _ => None,
         }
     }
@@ -271,12 +270,11 @@ impl<'a> Session<'a> {
         if !other.roles.contains(role) {
             return None;
         }
-        match self.target(other) {
-            Some((_, target)) if target.held.includes(filler_set(filler)) => self.missing(
-                pair_result(rule, place, need, other),
-            ),
-            _ => None,
+        let (_, target) = self.target(other)?;
+        if !target.held.includes(filler_set(filler)) {
+            return None;
         }
+        self.missing(pair_result(rule, place, need, other))
     }
 }
 

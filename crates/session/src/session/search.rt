@@ -2,26 +2,38 @@
 ghost use Rattle.std.specs.Prelude.{◌≡◌};
 ghost use Rattle.calculus.specs.Makes.{words};
 ghost use Rattle.calculus.specs.Search.{first_missing};
+ghost use Rattle.session.specs.Living.{live_left, live_at, needs_left, needs_of};
 ghost use Rattle.session.specs.Scans.{by_axiom, by_need, by_edge, with_others, by_rule};
 
 use super::Session;
+use super::live::{Live, NeedsOf};
 use super::rules::{AxiomRule, EdgeRule, NeedRule, PairRule, RULES, Rule, applies};
 use calculus::state::{Finding, Need};
 use numbers::term_set::TermSet;
 use shelf::form::Axiom;
 
-#[tactic(auto, using(crate::proofs::Firsts::none_start, crate::proofs::Firsts::none_next, crate::proofs::Firsts::first_none), unfolding(calculus::specs::Search::when, calculus::specs::Search::given))]
+#[tactic(auto, using(crate::proofs::Firsts::none_start, crate::proofs::Firsts::none_next, crate::proofs::Firsts::first_none, crate::proofs::Lefts::left_here, crate::proofs::Lefts::left_next, crate::proofs::Lefts::left_end), unfolding(calculus::specs::Search::when, calculus::specs::Search::given))]
 impl<'a> Session<'a> {
+    // The contexts that are not void, with their places.
+    fn live(&self) -> Live<'_>
+        ensures { live_left result ≡ live_at 0 self.now.contexts }
+    {
+        Live::new(self.contexts.all())
+    }
+
+    // The needs of the context at a place.
+    fn needs_of(&self, place: u16) -> NeedsOf<'_>
+        ensures { needs_left result ≡ needs_of place self.now.needs }
+    {
+        NeedsOf::new(self.needs.all(), place)
+    }
+
     // The first missing result of a rule over contexts and axioms.
     fn by_axiom(&self, rule: AxiomRule) -> Option<Finding<TermSet>>
         ensures { result ≡ by_axiom rule self.now }
     {
         let mut found = None;
-        'search: for (i, context) in self.contexts.all().iter().enumerate() {
-            if context.void {
-                continue;
-            }
-            let place = i as u16;
+        'search: for (place, context) in self.live() {
             for axiom in self.axioms.all() {
                 found = self.at_axiom(rule, place, context, axiom);
                 if found.is_some() {
@@ -38,15 +50,8 @@ impl<'a> Session<'a> {
         ensures { result ≡ by_need rule self.now }
     {
         let mut found = None;
-        'search: for (i, context) in self.contexts.all().iter().enumerate() {
-            if context.void {
-                continue;
-            }
-            let place = i as u16;
-            for need in self.needs.all() {
-                if need.context != place {
-                    continue;
-                }
+        'search: for (place, _) in self.live() {
+            for need in self.needs_of(place) {
                 found = self.at_need(rule, place, need);
                 if found.is_some() {
                     break 'search;
@@ -61,19 +66,12 @@ impl<'a> Session<'a> {
         ensures { result ≡ by_edge rule self.now }
     {
         let mut found = None;
-        'search: for (i, context) in self.contexts.all().iter().enumerate() {
-            if context.void {
-                continue;
-            }
-            let place = i as u16;
+        'search: for (place, context) in self.live() {
             for axiom in self.axioms.all() {
                 if !applies(rule, context, axiom) {
                     continue;
                 }
-                for need in self.needs.all() {
-                    if need.context != place {
-                        continue;
-                    }
+                for need in self.needs_of(place) {
                     found = self.at_edge(rule, place, axiom, need);
                     if found.is_some() {
                         break 'search;
@@ -94,13 +92,8 @@ impl<'a> Session<'a> {
     ) -> Option<Finding<TermSet>>
         ensures { result ≡ with_others rule self.now place «axiom».now need.now }
     {
-        let Some(owner) = self.onward(rule, place, axiom, need) else {
-            return None;
-        };
-        for other in self.needs.all() {
-            if other.context != owner {
-                continue;
-            }
+        let owner = self.onward(rule, place, axiom, need)?;
+        for other in self.needs_of(owner) {
             let found = self.at_pair(rule, place, axiom, need, other);
             if found.is_some() {
                 return found;

@@ -53,7 +53,7 @@ impl<'a> Session<'a> {
         ensures { self.new ≡ added words self.old (Needed need) }
     {
         match covered_by(self.needs.all(), &need) {
-            Some(j) => self.needs.set(j as u16, need),
+            Some(j) => self.needs.set(j, need),
             None => self.needs.append(need),
         }
     }
@@ -64,20 +64,17 @@ impl<'a> Session<'a> {
         ensures { self.new ≡ added words self.old finding }
     {
         match finding {
-            Finding::Fresh { set } => self.contexts.append(Context {
-                set,
-                held: set,
-                void: false,
-            }),
+            Finding::Fresh { set } => self.contexts.append(Context::new(set)),
             Finding::Held { context, terms } => {
                 if let Some(row) = self.contexts.get(context) {
                     let held = row.held.union(terms);
-                    self.contexts.set(context, Context { held, ..row });
+                    self.contexts.set(context as usize, Context { held, ..row });
                 }
             }
             Finding::Void { context } => {
                 if let Some(row) = self.contexts.get(context) {
-                    self.contexts.set(context, Context { void: true, ..row });
+                    self.contexts
+                        .set(context as usize, Context { void: true, ..row });
                 }
             }
             Finding::Needed { need } => self.add_need(need),

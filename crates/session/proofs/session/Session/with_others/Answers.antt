@@ -1,29 +1,16 @@
-use Rattle.std.proofs.Common.{ℕ, eqb, Option, ap, ◌∙◌, arith, rules}
-use Rattle.std.proofs.lemmas.Bool.{eq-eqb}
-use Rattle.calculus.specs.Search.{first, given}
+use Rattle.std.proofs.Common.{ℕ, Option, ap, ◌∙◌}
+use Rattle.calculus.specs.Makes.{words}
+use Rattle.calculus.specs.Search.{given, each_need}
 use Rattle.session.specs.Scans.{at_pair}
-use Rattle.session.proofs.Firsts.{first_none, when_left}
-use Rattle.session.proofs.ScanSteps.{pair_other}
+use Rattle.session.proofs.Lefts.{needs_start}
 use Rattle.session.proofs.session.Session.with_others.Goals as goal
 
-pub returns-then-is_some : goal.returns-then-is_some
+pub loop-other-init : goal.loop-other-init
 unfolding given
-returns-then-is_some c =
+loop-other-init c =
     let s = c.args.self.now in
-    let rule = c.args.rule in
-    let i = c.args.place in
-    let x = c.args.«axiom».now in
-    let d = c.args.need.now in
-    let k = c.in-Some.owner in
-    let o = c.other-item.result in
-    when_left (λ n f. eqb f.context k) (λ n f. at_pair rule s i x d f) _ s.needs c.loop-other.other-index o _ (search rules) c.loop-other.invariant (omega arith) c.other-item.is
-    (eq-eqb o.context k c.if-other-owner.false) c.at_pair-found.ensures c.if-is_some.ensures
-    ∙ ap (λ (p : Option ℕ). given p (λ k. first 0 s.needs (pair_other s rule i x d k))) c.in-Some.ensures
-
-pub returns : goal.returns
-unfolding given
-returns c =
-    let s = c.args.self.now in
-    let step = pair_other s c.args.rule c.args.place c.args.«axiom».now c.args.need.now in
-    first_none (step c.in-Some.owner) _ s.needs c.loop-other.other-index (search rules) c.loop-other.invariant (omega arith)
-    ∙ ap (λ (p : Option ℕ). given p (λ k. first 0 s.needs (step k))) c.in-Some.ensures
+    let f = at_pair c.args.rule s c.args.place c.args.«axiom».now c.args.need.now in (
+      tt,
+      tt,
+      needs_start f _ c.in_ok-owner.owner s.needs (cc) ∙ ap (λ (p : Option ℕ). given p (λ k. each_need words s k (λ n o. f o))) c.in_ok-owner.ensures,
+    )
