@@ -1,5 +1,5 @@
 -- What a nested search has found once nothing stands before a place. Assumes nothing.
-use Rattle.std.proofs.Common.{◌≡◌, ℕ, zero, suc, ◌+◌, ◌<◌, ◌≤◌, Bool, true, false, List, [], ◌∷◌, length, get_or, is_some, Some, None, Option, sym, refl, ap, ◌∙◌, subst, ⊎_elim, zero-add, arith}
+use Rattle.std.proofs.Common.{◌≡◌, ℕ, zero, suc, ◌+◌, ◌<◌, ◌≤◌, Bool, true, List, [], ◌∷◌, length, get_or, is_some, Some, None, Option, sym, refl, ap, ◌∙◌, subst, ⊎_elim, zero-add, arith}
 use Rattle.std.proofs.lemmas.Option.{slice_get_read}
 use Rattle.std.proofs.lemmas.Bool.{cases_lt, true≢false}
 use Rattle.calculus.proofs.Places.{none_some, some_same, at_below}
@@ -60,9 +60,6 @@ module _ {X Y : Type 0} (f : ℕ → X → Option Y) where
   first_none xs ys n same none h = sym (subst (λ (zs : List X). first 0 zs f ≡ None) same
       (none_from 0 xs (λ k z b. ap (λ (j : ℕ). f j z) (zero-add k) ∙ none.before k z (let below = at_below xs k z b in omega arith) b)))
 
-  pub first_end : (xs ys : List X) (n : ℕ) (o : Option Y) → o ≡ None → xs ≡ ys → NoneBefore f xs n → length xs ≤ n → o ≡ first 0 ys f
-  first_end xs ys n o e same none h = e ∙ first_none xs ys n same none h
-
 when_passed : {Y : Type 0} (b : Bool) (f : Unit {0} → Option Y) → b ≡ true → when b f ≡ f tt
 unfolding when
 when_passed b f e = ap (λ (t : Bool). when t f) e
@@ -72,7 +69,3 @@ pub when_left : {X Y : Type 0} (p : ℕ → X → Bool) (g : ℕ → X → Optio
     → n < length xs → x ≡ get_or xs n x → p n x ≡ true → o ≡ g n x → true ≡ is_some o → o ≡ first 0 ys (λ i x. when (p i x) (λ _. g i x))
 when_left p g xs ys n x o same none below is pass e some =
     first_left (λ i x. when (p i x) (λ _. g i x)) xs ys n x o same none below is (e ∙ sym (when_passed (p n x) (λ _. g n x) pass)) some
-
-pub when_failed : {Y : Type 0} (b : Bool) (f : Unit {0} → Option Y) → b ≡ false → when b f ≡ None
-unfolding when
-when_failed b f e = ap (λ (t : Bool). when t f) e

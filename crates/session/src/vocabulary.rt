@@ -107,5 +107,5 @@ impl Vocabulary {
 fn terms_to(n: u8) -> TermSet
     ensures { result ≡ terms_to n }
 {
-    (0..n).fold(TermSet::empty(), |set, i| set.with(Term(i + 1)))
+    (1..=n).fold(TermSet::empty(), |set, i| set.with(Term(i)))
 }

@@ -44,8 +44,8 @@ impl<'a> Session<'a> {
         found
     }
 
-    // The first missing result of a rule over contexts and needs. Not one function with the one above: that would be told which
-    // table to go through, and which needs to pass over.
+    // The first missing result of a rule over contexts and needs. Not one function with the one above: that would be told what
+    // to go through at each context, as a closure, and the search would be no nest of loops.
     fn by_need(&self, rule: NeedRule) -> Option<Finding<TermSet>>
         ensures { result ≡ by_need rule self.now }
     {
@@ -113,7 +113,8 @@ impl<'a> Session<'a> {
         }
     }
 
-    // The first missing result of all rules: of the lowest rule, and then at the lowest places.
+    // The first missing result of all rules: of the lowest rule, and then at the lowest places. A `for`, since of `find_map` the check finds
+    // no proof: its clause `ran` does not say that the answer at which it stops is some.
     pub(crate) fn first_missing(&self) -> Option<Finding<TermSet>>
         ensures { result ≡ first_missing words self.now }
     {
