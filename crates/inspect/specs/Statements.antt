@@ -1,5 +1,5 @@
 -- What the program says of an axiom. Assumes nothing.
-use Rattle.std.specs.Prelude.{ℕ, cond, List, [], ◌∷◌, ◌++◌, length, Some, None, codes, decimal, Option, ◌==◌}
+use Rattle.std.specs.Prelude.{ℕ, cond, List, [], ◌∷◌, ◌++◌, length, codes, decimal, Option, ◌==◌}
 use Rattle.numbers.specs.Roles.{role_text}
 use Rattle.numbers.specs.declared.term.Term.{Term}
 use Rattle.numbers.specs.declared.term_set.TermSet.{TermSet}
