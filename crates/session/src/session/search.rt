@@ -108,7 +108,7 @@ impl<'a> Session<'a> {
     }
 
     // The first missing result of all rules: of the lowest rule, and then at the lowest places. A `for`, since of `find_map` the check finds
-    // no proof: its clause `ran` does not say that the answer at which it stops is some.
+    // no proof.
     pub(crate) fn first_missing(&self) -> Option<Finding<TermSet>>
         ensures { result ≡ first_missing words self.now }
     {
