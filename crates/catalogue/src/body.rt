@@ -167,5 +167,9 @@ fn left_terms(at: u16, left: &[u8]) -> Result<TermSet, ByteFault>
 pub(crate) fn axiom(at: u16, form: Form<&[u8]>) -> Result<Axiom, ByteFault>
     ensures { result ≡ to_axiom at (seen form.entry) }
 {
-    form.try_map_left(|left| left_terms(at, left))
+    let set = match form.left() {
+        Some(left) => left_terms(at, left)?,
+        None => TermSet::empty(),
+    };
+    Ok(form.with_left(set))
 }

@@ -1,5 +1,5 @@
 -- The parts of a form: its left side, and the number of a filler. Assumes nothing.
-use Rattle.std.specs.Prelude.{◌≡◌, ℕ, Some, None, Ok, Err, Option, Result}
+use Rattle.std.specs.Prelude.{ℕ, Some, None, Option}
 use Rattle.numbers.specs.declared.term.Term.{Term}
 use Rattle.shelf.specs.declared.form.Form.{Form}
 use Rattle.shelf.specs.declared.form.Form.TheVariants.{Under, Nothing, Exists, Only, AtMostOne, RoleUnder}
@@ -26,17 +26,3 @@ map_left f (Exists l r x) = Exists (f l) r x
 map_left f (Only l r t) = Only (f l) r t
 map_left f (AtMostOne l r x) = AtMostOne (f l) r x
 map_left f (RoleUnder r q) = RoleUnder r q
-
--- the form over what was made of its left side, or the error of the making
-abbrev pub over_made : {L M E : Type 0} → Form L → Result M E → Result (Form M) E
-over_made a (Ok m) = Ok (map_left (λ _. m) a)
-over_made a (Err e) = Err e
-
--- whether r is the form over what may be made of its left side; a form without one stays as it is
-abbrev pub MapsLeft : {L M E : Type 0} → (L → Result M E → Type 0) → Form L → Result (Form M) E → Type 0
-MapsLeft made (Under l t) r = (x : Result _ _) × made l x × (r ≡ over_made (Under l t) x)
-MapsLeft made (Nothing l) r = (x : Result _ _) × made l x × (r ≡ over_made (Nothing l) x)
-MapsLeft made (Exists l s f) r = (x : Result _ _) × made l x × (r ≡ over_made (Exists l s f) x)
-MapsLeft made (Only l s t) r = (x : Result _ _) × made l x × (r ≡ over_made (Only l s t) x)
-MapsLeft made (AtMostOne l s f) r = (x : Result _ _) × made l x × (r ≡ over_made (AtMostOne l s f) x)
-MapsLeft made (RoleUnder s q) r = r ≡ Ok (RoleUnder s q)

@@ -1,7 +1,7 @@
 // The six forms of an axiom.
 ghost use Rattle.std.specs.Prelude.{◌≡◌, Decides, IfSome};
 ghost use Rattle.shelf.specs.Axioms.{is_filler, roles_sound, right_sound};
-ghost use Rattle.shelf.specs.Forms.{filler_number, left_of, MapsLeft};
+ghost use Rattle.shelf.specs.Forms.{filler_number, left_of, map_left};
 
 use numbers::role::DirectedRole;
 use numbers::term::Term;
@@ -70,22 +70,36 @@ fn filler_in_range(filler: Option<Term>) -> bool
 }
 
 impl<L> Form<L> {
-    // The same form over what the function makes of the left side, or the function's error.
-    pub fn try_map_left<M, E, F: FnOnce(L) -> Result<M, E>>(self, f: F) -> Result<Form<M>, E>
-        requires { IfSome (left_of self) (F.pre f) }
-        ensures { MapsLeft (F.post f) self result }
+    // The left side, of which the inclusion of a role has none.
+    pub fn left(self) -> Option<L>
+    where
+        L: Copy,
+        ensures { result ≡ left_of self }
     {
         match self {
-            Form::Under { left, term } => f(left).map(|left| Form::Under { left, term }),
-            Form::Nothing { left } => f(left).map(|left| Form::Nothing { left }),
-            Form::Exists { left, role, filler } => {
-                f(left).map(|left| Form::Exists { left, role, filler })
-            }
-            Form::Only { left, role, term } => f(left).map(|left| Form::Only { left, role, term }),
-            Form::AtMostOne { left, role, filler } => {
-                f(left).map(|left| Form::AtMostOne { left, role, filler })
-            }
-            Form::RoleUnder { lower, upper } => Ok(Form::RoleUnder { lower, upper }),
+            Form::Under { left, .. }
+            | Form::Nothing { left }
+            | Form::Exists { left, .. }
+            | Form::Only { left, .. }
+            | Form::AtMostOne { left, .. } => Some(left),
+            Form::RoleUnder { .. } => None,
+        }
+    }
+
+    // The same form with another left side, where it has one.
+    pub fn with_left<M>(self, left: M) -> Form<M>
+    where
+        L: Copy,
+        M: Copy,
+        ensures { result ≡ map_left (λ _. left) self }
+    {
+        match self {
+            Form::Under { term, .. } => Form::Under { left, term },
+            Form::Nothing { .. } => Form::Nothing { left },
+            Form::Exists { role, filler, .. } => Form::Exists { left, role, filler },
+            Form::Only { role, term, .. } => Form::Only { left, role, term },
+            Form::AtMostOne { role, filler, .. } => Form::AtMostOne { left, role, filler },
+            Form::RoleUnder { lower, upper } => Form::RoleUnder { lower, upper },
         }
     }
 

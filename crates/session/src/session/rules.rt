@@ -80,6 +80,14 @@ pub(super) const RULES: [Rule; 11] = [
     Rule::Edge(EdgeRule::WithOthers(PairRule::BackRoles)),
 ];
 
+// A need of the context at a place, counted from 0, and an axiom: what an edge rule looks at.
+#[derive(Clone, Copy)]
+pub(super) struct Edge<'a> {
+    pub(super) place: u16,
+    pub(super) axiom: &'a Axiom,
+    pub(super) need: &'a Need<TermSet>,
+}
+
 impl<'a> Session<'a> {
     // The target of a need, with its place.
     #[tactic(auto, using(crate::proofs::TableRows::found_row, crate::proofs::TableRows::found_none))]
@@ -187,15 +195,10 @@ impl<'a> Session<'a> {
     }
 
     // What a rule gives at a need of a context and an axiom to which it applies.
-    pub(super) fn at_edge(
-        &self,
-        rule: EdgeRule,
-        place: u16,
-        axiom: &Axiom,
-        need: &Need<TermSet>,
-    ) -> Option<Finding<TermSet>>
-        ensures { result ≡ at_edge rule self.now place «axiom».now need.now }
+    pub(super) fn at_edge(&self, rule: EdgeRule, edge: Edge) -> Option<Finding<TermSet>>
+        ensures { result ≡ at_edge rule self.now edge.entry.place edge.entry.«axiom».now edge.entry.need.now }
     {
+        let Edge { place, axiom, need } = edge;
         match (rule, *axiom) {
             // A match and no `or_else`: of a closure that calls twice the proof learns nothing.
             (EdgeRule::RoleUnder, Form::RoleUnder { lower, upper }) => match self.with_role(
@@ -222,21 +225,16 @@ impl<'a> Session<'a> {
                     terms: TermSet::only(term),
                 })
             }
-            (EdgeRule::WithOthers(rule), _) => self.with_others(rule, place, axiom, need),
+            (EdgeRule::WithOthers(rule), _) => self.with_others(rule, edge),
             _ => None,
         }
     }
 
     // Where the second need has to belong, if a rule goes on from a first need.
-    pub(super) fn onward(
-        &self,
-        rule: PairRule,
-        place: u16,
-        axiom: &Axiom,
-        need: &Need<TermSet>,
-    ) -> Option<u16>
-        ensures { result ≡ onward rule self.now place «axiom».now need.now }
+    pub(super) fn onward(&self, rule: PairRule, edge: Edge) -> Option<u16>
+        ensures { result ≡ onward rule self.now edge.entry.place edge.entry.«axiom».now edge.entry.need.now }
     {
+        let Edge { place, axiom, need } = edge;
         let Form::AtMostOne { left, role, filler } = *axiom else {
             return None;
         };
@@ -257,14 +255,12 @@ impl<'a> Session<'a> {
     pub(super) fn at_pair(
         &self,
         rule: PairRule,
-        place: u16,
-        axiom: &Axiom,
-        need: &Need<TermSet>,
+        edge: Edge,
         other: &Need<TermSet>,
     ) -> Option<Finding<TermSet>>
-        ensures { result ≡ at_pair rule self.now place «axiom».now need.now other.now }
+        ensures { result ≡ at_pair rule self.now edge.entry.place edge.entry.«axiom».now edge.entry.need.now other.now }
     {
-        let Form::AtMostOne { role, filler, .. } = *axiom else {
+        let Form::AtMostOne { role, filler, .. } = *edge.axiom else {
             return None;
         };
         if !other.roles.contains(role) {
@@ -274,7 +270,7 @@ impl<'a> Session<'a> {
         if !target.held.includes(filler_set(filler)) {
             return None;
         }
-        self.missing(pair_result(rule, place, need, other))
+        self.missing(pair_result(rule, edge.place, edge.need, other))
     }
 }
 

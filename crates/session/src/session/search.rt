@@ -7,7 +7,7 @@ ghost use Rattle.session.specs.Scans.{by_axiom, by_need, by_edge, with_others, b
 
 use super::Session;
 use super::live::{Live, NeedsOf};
-use super::rules::{AxiomRule, EdgeRule, NeedRule, PairRule, RULES, Rule, applies};
+use super::rules::{AxiomRule, Edge, EdgeRule, NeedRule, PairRule, RULES, Rule, applies};
 use calculus::state::{Finding, Need};
 use numbers::term_set::TermSet;
 use shelf::form::Axiom;
@@ -72,7 +72,7 @@ impl<'a> Session<'a> {
                     continue;
                 }
                 for need in self.needs_of(place) {
-                    found = self.at_edge(rule, place, axiom, need);
+                    found = self.at_edge(rule, Edge { place, axiom, need });
                     if found.is_some() {
                         break 'search;
                     }
@@ -83,18 +83,12 @@ impl<'a> Session<'a> {
     }
 
     // The first missing result of a rule at one need, over a second one.
-    pub(super) fn with_others(
-        &self,
-        rule: PairRule,
-        place: u16,
-        axiom: &Axiom,
-        need: &Need<TermSet>,
-    ) -> Option<Finding<TermSet>>
-        ensures { result ≡ with_others rule self.now place «axiom».now need.now }
+    pub(super) fn with_others(&self, rule: PairRule, edge: Edge) -> Option<Finding<TermSet>>
+        ensures { result ≡ with_others rule self.now edge.entry.place edge.entry.«axiom».now edge.entry.need.now }
     {
-        let owner = self.onward(rule, place, axiom, need)?;
+        let owner = self.onward(rule, edge)?;
         for other in self.needs_of(owner) {
-            let found = self.at_pair(rule, place, axiom, need, other);
+            let found = self.at_pair(rule, edge, other);
             if found.is_some() {
                 return found;
             }

@@ -9,7 +9,7 @@ pub loop-other-init : goal.loop-other-init
 unfolding given
 loop-other-init c =
     let s = c.args.self.now in
-    let f = at_pair c.args.rule s c.args.place c.args.«axiom».now c.args.need.now in (
+    let f = at_pair c.args.rule s c.args.edge.place c.args.edge.«axiom».now c.args.edge.need.now in (
       tt,
       tt,
       needs_start f _ c.in_ok-owner.owner s.needs (cc) ∙ ap (λ (p : Option ℕ). given p (λ k. each_need words s k (λ n o. f o))) c.in_ok-owner.ensures,

@@ -8,4 +8,4 @@ use Rattle.session.proofs.session.Session.with_others.Given as goal
 abbrev pub invariant-loop-other : goal.invariant-loop-other
 invariant-loop-other l =
     goal.iterator-loop-other.can_next l.other-iterator × goal.iterator-loop-other.is_finite l.other-iterator
-    × (first_of (at_pair l.rule l.self l.place l.«axiom» l.need) (needs_left l.other-iterator) ≡ with_others l.rule l.self l.place l.«axiom» l.need)
+    × (first_of (at_pair l.rule l.self l.edge.place l.edge.«axiom».now l.edge.need.now) (needs_left l.other-iterator) ≡ with_others l.rule l.self l.edge.place l.edge.«axiom».now l.edge.need.now)
