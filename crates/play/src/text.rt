@@ -1,5 +1,4 @@
 // How axioms, faults, refusals and bytes are printed.
-// `inspect` has a few types like these with other words; a library for the lines that both share would be no plainer.
 use numbers::term::Term;
 use numbers::term_set::TermSet;
 use session::refusal::Refusal;
