@@ -1,11 +1,11 @@
 // The one meaning of sets: which numbers are members.
-ghost use Rattle.std.specs.Prelude.{◌≡◌, ℕ, Bool, Decides};
+ghost use Rattle.std.specs.Prelude.{◌≡◌, ℕ, Bool};
 ghost use Rattle.numbers.specs.Sets.{SetLaws};
 
 // A set of items that have numbers. The ghost members are what the operations mean, and `laws` ties them to
 // membership: inclusion is reflexive and transitive, inclusion both ways is sameness, and a union is the
-// least set that includes both parts. `alike` says that `==` is sameness.
-pub trait NumberSet: Copy + PartialEq {
+// least set that includes both parts.
+pub trait NumberSet: Copy {
     type Item;
 
     // the largest possible member
@@ -52,6 +52,4 @@ pub trait NumberSet: Copy + PartialEq {
     }
 
     ghost laws: { SetLaws limit has none single covers joined };
-
-    ghost alike: { (a b : Self) → Decides (Self.eq a b) (a ≡ b) };
 }

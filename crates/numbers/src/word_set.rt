@@ -1,5 +1,5 @@
 // Sets that are kept as one word, and how they are sets by operations on it.
-ghost use Rattle.std.specs.Prelude.{◌≡◌, ℕ, ◌^◌, ◌<◌, ◌≤◌, ◌==◌, not, bit_and, bit_or};
+ghost use Rattle.std.specs.Prelude.{◌≡◌, ℕ, ◌^◌, ◌<◌, ◌≤◌, ◌==◌, Decides, not, bit_and, bit_or};
 ghost use Rattle.numbers.specs.Bits.{word_has, word_single, word_covers};
 ghost use Rattle.numbers.specs.Words.{kept_laws, known_alike};
 
@@ -43,6 +43,9 @@ pub trait WordSet: Copy + PartialEq {
     ghost known: { (a b : Self) → word a ≡ word b → a ≡ b };
 
     ghost compared: { (a b : Self) → Self.eq a b ≡ (word a == word b) };
+
+    // so `==` is sameness
+    ghost alike: { (a b : Self) → Decides (Self.eq a b) (a ≡ b) } = { known_alike word known Self.eq compared };
 }
 
 // The word in which only the bit of a number is 1, or 0 where the number is no possible member of so many.
@@ -82,8 +85,6 @@ impl<S: WordSet> NumberSet for S {
     ghost joined = { λ a b. S.of_word (bit_or (S.word a) (S.word b)) };
 
     ghost laws = { kept_laws S.WIDTH S.word S.of_word S.small S.kept S.known };
-
-    ghost alike = { known_alike S.word S.known S.eq S.compared };
 
     fn empty() -> S {
         S::of_word(0)
