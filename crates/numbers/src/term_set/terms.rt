@@ -4,8 +4,8 @@ ghost use Rattle.std.specs.Iterator.{YieldsFirst, item_count};
 ghost use Rattle.numbers.specs.TermLists.{term_of, terms_of, terms_from, terms_left};
 
 use super::TermSet;
-use crate::set::NumberSet;
 use crate::term::Term;
+use crate::word_set::WordSet;
 
 // The members of a set from the number `next` on, rising.
 #[derive(Clone, Copy)]
@@ -24,16 +24,19 @@ impl TermSet {
     }
 }
 
-// The lowest member of a set from a number on. A `for`, since of a chain that ends with `find` the check finds no proof.
+// The lowest member of a set from a number on: the lowest bit of what is left of its word.
 fn first_from(set: TermSet, from: u8) -> Option<u8>
     ensures { MatchOption result (terms_from set from ≡ []) (λ n. (n < 65) × (terms_from set from ≡ term_of n ∷ terms_from set (n + 1))) }
 {
-    for n in from..65 {
-        if set.contains(Term(n)) {
-            return Some(n);
-        }
+    let passed = from.saturating_sub(1);
+    if passed >= 64 {
+        return None;
     }
-    None
+    let rest = set.word() >> passed;
+    if rest == 0 {
+        return None;
+    }
+    Some(passed + 1 + rest.trailing_zeros() as u8)
 }
 
 impl Iterator for Terms {

@@ -1,9 +1,11 @@
-use Rattle.std.proofs.Common.{sym, ◌∙◌, arith}
-use Rattle.numbers.proofs.Coming.{term_first, term_later}
+use Rattle.std.proofs.Common.{arith}
+use Rattle.numbers.proofs.Coming.{first_none, first_some}
 use Rattle.numbers.proofs.term_set.terms.first_from.Goals as goal
 
-pub returns-then-contains : goal.returns-then-contains
-returns-then-contains c = (omega arith, sym c.loop-n.invariant ∙ term_first c.args.set c.loop-n.n (omega arith) (sym c.contains.ensures ∙ c.if-contains.true))
+pub returns-then-rest-eq0 : goal.returns-then-rest-eq0
+returns-then-rest-eq0 c =
+    first_none c.args.set c.args.from c.saturating_sub-passed.result c.word.result c.saturating_sub-passed.ensures c.word.ensures (omega (arith, c.if-passed-ge64.false)) c.if-rest-eq0.true
 
-pub loop-n-preserved : goal.loop-n-preserved
-loop-n-preserved c = sym (term_later c.args.set c.loop-n.n (omega arith) (sym c.contains.ensures ∙ c.if-contains.false)) ∙ c.loop-n.invariant
+pub returns : goal.returns
+returns c =
+    first_some c.args.set c.args.from c.saturating_sub-passed.result c.word.result c.saturating_sub-passed.ensures c.word.ensures c.word.type_inv (omega (arith, c.if-rest-eq0.false))
