@@ -2,8 +2,9 @@
 use Rattle.std.specs.Prelude.{◌≡◌, ℕ, zero, suc, ◌+◌, ◌-◌, ◌<◌, ◌≤◌, true, cond, List, [], ◌∷◌, ◌++◌, length, drop, get_or, ◌==◌, nat_le, slice_index_or, refl}
 use Rattle.std.proofs.Common.{sym, ap, ◌∙◌, add-one, arith, lit≤}
 use Rattle.std.proofs.lemmas.Bool.{leb-true, le-leb, lt-leb, cond-true, cond-false, cond_both, and_from, and_parts, ne_eqb}
-use Rattle.std.proofs.lemmas.List.{drop_more, get_or_past, get_or_append_left, get_or-append_right, get_or_default}
+use Rattle.std.proofs.lemmas.List.{drop_all, drop_more, get_or_past, get_or_append_left, get_or-append_right, get_or_default}
 use Rattle.shelf.specs.Shelves.{Entry, entry_at, at_most_all, byteless, all_sound}
+use Rattle.shelf.specs.Coming.{answers}
 use Rattle.shelf.specs.declared.fault.Cause.TheVariants.{Outside, TooLong}
 
 pub all_short : (m : ℕ) (xs : List Entry) → length (at_most_all m xs) ≤ 65535
@@ -59,3 +60,21 @@ at_second m n (suc k) xs ys h a b =
 -- what comes next after the first k entries of a list
 pub entries_next : (xs : List Entry) (m k : ℕ) → k < length xs → drop k xs ≡ entry_at xs m (k + 1) ∷ drop (k + 1) xs
 entries_next xs m k h = drop_more xs k (byteless m (suc k) Outside) h ∙ ap (λ (p : ℕ). entry_at xs m p ∷ drop (k + 1) xs) (sym (add-one k))
+
+less : (k n : ℕ) → k < n → n - k ≡ suc (n - (k + 1))
+less k n h = omega arith
+
+-- what is answered first of what the places from one on to the last give
+pub answers_next : (xs : List Entry) (m k n : ℕ) → k < n → answers xs m k (n - k) ≡ entry_at xs m (k + 1) ∷ answers xs m (k + 1) (n - (k + 1))
+answers_next xs m k n h = ap (answers xs m k) (less k n h)
+
+-- what is answered at the last n places is what is left of the list
+answers_from : (xs : List Entry) (m k n : ℕ) → k + n ≡ length xs → answers xs m k n ≡ drop k xs
+answers_from xs m k zero e = sym (drop_all k xs (omega arith))
+answers_from xs m k (suc n) e = ap (λ (ys : List Entry). entry_at xs m (k + 1) ∷ ys) (answers_from xs m (k + 1) n (omega arith)) ∙ sym (entries_next xs m k (omega arith))
+
+-- what a shelf answers at all its places is its list
+pub all_answers : {S : Type 0} (list : S → List Entry) (mark : S → ℕ) (s t : S) (k n : ℕ) → t ≡ s → k ≡ 0 → n ≡ length (list s) → answers (list t) (mark t) k (n - k) ≡ list s
+all_answers {S} list mark s t k n a b e =
+    ap (λ (x : S). answers (list x) (mark x) k (n - k)) a ∙ ap (λ (i : ℕ). answers (list s) (mark s) i (n - i)) b
+    ∙ answers_from (list s) (mark s) 0 (n - 0) (omega arith)

@@ -31,9 +31,9 @@ pub trait Shelf {
 
     // The entries in order.
     final fn entries(&self) -> Entries<'_, Self>
-        ensures all { entries_left list result ≡ list self.now }
+        ensures all { entries_left list mark result ≡ list self.now }
         ensures few { length (list self.now) ≤ 65535 }
     {
-        Entries::of(self)
+        Entries::of(self, self.count())
     }
 }

@@ -7,4 +7,4 @@ use Rattle.writer.proofs.is_faultless.Goals as goal
 pub returns : goal.returns
 returns g c =
     let es = g.S.Shelf.list c.args.shelf.now in
-    all_from_yields_List is_ok c.all.new.self _ _ c.all.ensures.ran (YieldsList-from_first (λ x. x) (entries_left g.S.Shelf.list) es c.entries.ensures.all) (λ x b q k. search (rules, tests))
+    all_from_yields_List is_ok c.all.new.self _ _ c.all.ensures.ran (YieldsList-from_first (λ x. x) (entries_left g.S.Shelf.list g.S.Shelf.mark) es c.entries.ensures.all) (λ x b q k. search (rules, tests))

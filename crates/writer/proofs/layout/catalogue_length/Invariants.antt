@@ -9,5 +9,5 @@ use Rattle.writer.proofs.layout.catalogue_length.Given as goal
 abbrev pub invariant-loop-entry : goal.invariant-loop-entry
 invariant-loop-entry g l =
     let es = g.S.Shelf.list l.shelf in
-    let left = entries_left g.S.Shelf.list l.entry-iterator in
+    let left = entries_left g.S.Shelf.list g.S.Shelf.mark l.entry-iterator in
     (l.len + (4 * length left + length (concat (entry_bodies left))) ≡ 2 + (4 * length es + length (concat (entry_bodies es)))) × (all_sound left ≡ true)
