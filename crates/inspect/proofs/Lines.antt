@@ -1,21 +1,13 @@
 -- The parts of a listing, one part more. Assumes nothing.
-use Rattle.std.proofs.Common.{is_err, filter, ◌≡◌, ℕ, suc, ◌+◌, List, [], ◌∷◌, ◌++◌, map, length, codes, decimal, Ok, Err, sym, refl, ap, ◌∙◌, append_assoc, add-one, arith, ◌==◌}
+use Rattle.std.proofs.Common.{◌≡◌, ℕ, suc, List, [], ◌∷◌, ◌++◌, map, length, codes, decimal, sym, ap, ◌∙◌, append_assoc, arith, ◌==◌}
 use Rattle.std.proofs.lemmas.Bool.{cond-false, ne_eqb}
 use Rattle.numbers.specs.TermLists.{terms_of}
 use Rattle.numbers.specs.TermSets.{term_number}
 use Rattle.numbers.specs.declared.term.Term.{Term}
 use Rattle.numbers.specs.declared.term_set.TermSet.{TermSet}
-use Rattle.shelf.specs.Shelves.{Entry}
-use Rattle.inspect.specs.Listings.{line_text, lines_text, faults_in}
 use Rattle.inspect.specs.Statements.{spaced, terms_text, left_text}
 
 module _ (said whole : List ℕ) where
-  -- the line of the next entry comes after what was said
-  pub next_line : (p : ℕ) (e : Entry) (es rest : List Entry) → es ≡ e ∷ rest → said ++ lines_text p es ≡ whole → (said ++ line_text p e) ++ lines_text (p + 1) rest ≡ whole
-  next_line p e es rest next so =
-      append_assoc said (line_text p e) (lines_text (p + 1) rest)
-      ∙ ap (λ (q : ℕ). said ++ (line_text p e ++ lines_text q rest)) (add-one p) ∙ ap (λ (xs : List Entry). said ++ lines_text p xs) (sym next) ∙ so
-
   -- the next term comes after what was said, behind a space
   pub next_term : (t : Term) (ts rest : List Term) → ts ≡ t ∷ rest → said ++ spaced (map term_number ts) ≡ whole → (said ++ (codes " " ++ decimal t.0)) ++ spaced (map term_number rest) ≡ whole
   next_term t ts rest next so =
@@ -34,8 +26,3 @@ said_first n ns = cond-false (suc (length ns) == 0) (codes "all") (decimal n ++ 
 pub first_term : (s : TermSet) (t : Term) (rest : List Term) → terms_of s ≡ t ∷ rest → decimal t.0 ++ spaced (map term_number rest) ≡ left_text s
 unfolding left_text
 first_term s t rest e = sym (ap (λ (ts : List Term). terms_text (map term_number ts)) e ∙ said_first t.0 (map term_number rest))
-
-pub count_errors : (es : List Entry) → length (filter (λ e. is_err e) es) ≡ faults_in es
-count_errors [] = refl
-count_errors (Ok a ∷ es) = count_errors es
-count_errors (Err f ∷ es) = ap suc (count_errors es)

@@ -1,5 +1,5 @@
 // The listing of a catalogue, as text.
-ghost use Rattle.std.specs.Prelude.{◌≡◌, Some, IfOk, string_bytes};
+ghost use Rattle.std.specs.Prelude.{◌≡◌, ◌++◌, Some, IfOk, string_bytes};
 ghost use Rattle.catalogue.specs.Catalogues.{catalogue_list};
 ghost use Rattle.writer.specs.Writing.{faultless};
 ghost use Rattle.inspect.specs.Listings.{entry_text, line_text, lines_text, faults_in, counts_text, end_text, listing_text};
@@ -44,27 +44,19 @@ impl fmt::Display for Line {
     }
 }
 
-// A line for each entry of a shelf.
-#[derive(Clone, Copy)]
-struct Lines<'a, S>(&'a S);
-
-impl<'a, S: Shelf> fmt::Display for Lines<'a, S> {
-    ghost output = { λ l. Some (lines_text 1 (S.Shelf.list l.0.now)) };
-
-    fn fmt<W: fmt::Write>(&self, f: &mut fmt::Formatter<W>) -> fmt::Result {
-        for (i, entry) in self.0.entries().enumerate() {
-            let place = i as u16 + 1;
-            write!(f, "{}", Line { place, entry })?;
-        }
-        Ok(())
-    }
-}
-
-// How many entries of a shelf are faulty.
-fn count_faults<S: Shelf>(shelf: &S) -> usize
-    ensures { result ≡ faults_in (S.Shelf.list shelf.now) }
+// Adds a line for each entry of a shelf, and answers how many are faulty. No `Display`: each entry is read once, for both.
+fn push_lines<S: Shelf>(text: &mut String, shelf: &S) -> Result<usize, AllocError>
+    ensures { IfOk result (λ n. (string_bytes text.new ≡ string_bytes text.old ++ lines_text 1 (S.Shelf.list shelf.now)) × (n ≡ faults_in (S.Shelf.list shelf.now))) }
 {
-    shelf.entries().filter(|entry| entry.is_err()).count()
+    let mut faults = 0;
+    for (i, entry) in shelf.entries().enumerate() {
+        let place = i as u16 + 1;
+        if entry.is_err() {
+            faults += 1;
+        }
+        write!(text, "{}", Line { place, entry })?;
+    }
+    Ok(faults)
 }
 
 // How many entries there are, and how many are faulty.
@@ -119,11 +111,13 @@ pub fn listing(heap: Global, bytes: &[u8]) -> Result<String, AllocError>
 {
     let catalogue = Catalogue::new(bytes, 0);
     let again = is_written_again(heap, bytes)?;
-    let lines = Lines(&catalogue);
+    let mut text = String::new(heap);
+    let faults = push_lines(&mut text, &catalogue)?;
     let counts = Counts {
         entries: catalogue.count(),
-        faults: count_faults(&catalogue),
+        faults,
     };
     let end = End { again };
-    format!(in heap; "{lines}{counts}{end}")
+    write!(text, "{counts}{end}")?;
+    Ok(text)
 }

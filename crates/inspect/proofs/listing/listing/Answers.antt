@@ -7,4 +7,4 @@ pub returns : goal.returns
 unfolding listing_text
 returns c =
     let listed = ap₂ catalogue_list c.new-catalogue.ensures.bytes c.new-catalogue.ensures.mark in
-    simp (listed, c.count.ensures, c.count_faults.ensures, c.in_ok-again.ensures) at c.format.ensures.ok
+    simp (listed, c.count.ensures, c.in_ok-faults.ensures.0, c.in_ok-faults.ensures.1, c.new-text.ensures.bytes, c.in_ok-again.ensures) at c.in_ok-write.ensures.bytes
