@@ -2,6 +2,7 @@ pub mod Bridges
 pub mod Firsts
 pub mod InUse
 pub mod Lefts
+pub mod Packets
 pub mod RestLaws
 pub mod RunLaws
 pub mod ScanSteps

@@ -9,12 +9,14 @@ use shelf::fault::Entry;
 use shelf::form::Axiom;
 use shelf::shelf::Shelf;
 
-// Whether all entries of a packet are axioms over the vocabulary.
+// Whether all entries of a packet are axioms over the vocabulary. Both loops over a packet count its places, since through `entries`
+// a packet of records took over half as long again.
+#[tactic(auto, using(shelf::specs::EntryLists::entries_next))]
 pub(crate) fn check<S: Shelf>(shelf: &S, vocabulary: Vocabulary) -> Result<(), Refusal>
     ensures { result ≡ take_answer (entries_refusal (terms_to vocabulary.terms) vocabulary.terms vocabulary.roles 1 (S.Shelf.list shelf.now)) }
 {
-    for (i, entry) in shelf.entries().enumerate() {
-        vocabulary.check(i as u16 + 1, entry)?;
+    for i in 0..shelf.count() {
+        vocabulary.check(i + 1, shelf.entry(i + 1))?;
     }
     Ok(())
 }
@@ -36,7 +38,7 @@ pub(crate) fn append_all<S: Shelf>(table: &mut Table<Axiom>, shelf: &S)
     ensures rows { table.new.rows ≡ table.old.rows ++ axioms_of (S.Shelf.list shelf.now) }
     ensures room { table.new.room ≡ table.old.room }
 {
-    for entry in shelf.entries() {
-        append_entry(table, entry);
+    for i in 0..shelf.count() {
+        append_entry(table, shelf.entry(i + 1));
     }
 }

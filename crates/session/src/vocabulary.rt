@@ -10,6 +10,7 @@ use numbers::role::DirectedRole;
 use numbers::set::NumberSet;
 use numbers::term::Term;
 use numbers::term_set::TermSet;
+use numbers::word_set::WordSet;
 use shelf::fault::Entry;
 use shelf::form::{Axiom, Form};
 
@@ -103,9 +104,12 @@ impl Vocabulary {
     }
 }
 
-// The set of the terms from 1 to n.
+// The set of the terms from 1 to n, made as a word, so that opening a session costs no step for each term.
 fn terms_to(n: u8) -> TermSet
     ensures { result ≡ terms_to n }
 {
-    (1..=n).fold(TermSet::empty(), |set, i| set.with(Term(i)))
+    if n >= 64 {
+        return TermSet::of_word(u64::MAX);
+    }
+    TermSet::of_word((1 << n) - 1)
 }

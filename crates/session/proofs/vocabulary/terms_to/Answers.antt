@@ -1,66 +1,58 @@
-use Rattle.std.proofs.Common.{◌≡◌, ℕ, zero, suc, ◌+◌, ◌-◌, Bool, true, false, List, ◌∷◌, Some, Option, sym, refl, ap, ◌∙◌, add-one, rules, arith}
-use Rattle.std.proofs.lemmas.Iterator.Consumers.{fold_from_yields_List, YieldsList-from_shown}
-use Rattle.std.proofs.lemmas.List.FromFn.{length-range_with_len}
-use Rattle.std.specs.List.{fold, range_with_len}
-use Rattle.std.specs.Range.{range_inclusive_steps, range_inclusive_len}
-use Rattle.std.specs.declared.ops.RangeInclusive.{RangeInclusive}
-use Rattle.numbers.specs.TermSets.{term_single, term_joined}
+use Rattle.std.proofs.Common.{◌≡◌, ℕ, zero, suc, ◌+◌, ◌-◌, ◌*◌, ◌%◌, ◌^◌, ◌<◌, ◌≤◌, bit_or, sym, refl, ap, ap₂, ◌∙◌, ⊎_elim, one-add, one-mul, mod-eq_of_lt, lit<, arith}
+use Rattle.std.proofs.lemmas.Bool.{cases_lt}
+use Rattle.std.proofs.lemmas.Nat.{pow-add, pow_pos, pow_below, or_comm, or_shifted}
+use Rattle.std.specs.Int.Bits.{or_zero_r}
+use Rattle.numbers.specs.Bits.{word_single, single_is, single_none}
+use Rattle.numbers.specs.TermSets.{term_word, term_single, term_joined}
 use Rattle.numbers.specs.declared.term_set.TermSet.{TermSet}
 use Rattle.session.specs.Taking.{terms_to}
 use Rattle.session.proofs.vocabulary.terms_to.Goals as goal
 
-abbrev with_number : TermSet → ℕ → TermSet
-with_number s i = term_joined s (term_single i)
+twice : (n : ℕ) → 2 ^ suc n ≡ 2 * 2 ^ n
+twice n = ap (λ (k : ℕ). 2 ^ k) (sym (one-add n)) ∙ pow-add 2 1 n
 
-moved : (a n : ℕ) → a + 1 + n ≡ a + suc n
-moved a n = omega arith
+-- one digit more, above digits that are all 1
+one_above : (n : ℕ) → bit_or (2 ^ n - 1) (2 ^ n) ≡ 2 ^ suc n - 1
+one_above n =
+    let once : 1 * 2 ^ n ≡ 2 ^ n = one-mul (2 ^ n) in
+    let sum : 1 * 2 ^ n + (2 ^ n - 1) ≡ 2 ^ suc n - 1 = omega (arith, once, twice n, pow_pos n) in
+    or_comm (2 ^ n - 1) (2 ^ n) ∙ ap (λ (x : ℕ). bit_or x (2 ^ n - 1)) (sym once) ∙ or_shifted 1 n (2 ^ n - 1) (omega (arith, pow_pos n)) ∙ sum
 
-one_more : (a : ℕ) → with_number (terms_to a) (a + 1) ≡ terms_to (a + 1)
-one_more a = rw (add-one a) refl
+-- one term more
+joined_words : (x k : ℕ) → x < 2 ^ 64 → word_single 64 k < 2 ^ 64 → term_joined (term_word x) (term_single k) ≡ term_word (bit_or x (word_single 64 k))
+joined_words x k h l = ap₂ (λ (y z : ℕ). term_word (bit_or y z)) (mod-eq_of_lt h) (mod-eq_of_lt l)
 
--- the n terms after a join the terms to a
-joined_on : (a n : ℕ) → fold with_number (terms_to a) (range_with_len (a + 1) n) ≡ terms_to (a + n)
-joined_on a zero = let e : a ≡ a + 0 = omega arith in ap terms_to e
-joined_on a (suc n) = ap (λ s. fold with_number s (range_with_len (a + 1 + 1) n)) (one_more a) ∙ joined_on (a + 1) n ∙ ap terms_to (moved a n)
+-- the word of the terms from 1 to n
+first_terms : (n : ℕ) → n ≤ 64 → terms_to n ≡ term_word (2 ^ n - 1)
+first_terms zero h = refl
+first_terms (suc n) h =
+    let small : 2 ^ n < 2 ^ 64 = pow_below n 64 h in
+    ap (λ (s : TermSet). term_joined s (term_single (suc n))) (first_terms n (omega arith))
+    ∙ joined_words (2 ^ n - 1) (suc n) (omega (arith, small)) (omega (arith, small, single_is 64 n h))
+    ∙ ap (λ (x : ℕ). term_word (bit_or (2 ^ n - 1) x)) (single_is 64 n h) ∙ ap term_word (one_above n)
 
--- the numbers that are left of a range with its end
-abbrev count : ℕ → ℕ → Bool → ℕ
-count a b spent = range_inclusive_len (λ x y. y - x) a b spent
-
-abbrev numbers_left : RangeInclusive ℕ → List ℕ
-numbers_left s = range_with_len s.start (count s.start s.end s.exhausted)
-
-abbrev steps : RangeInclusive ℕ → Option ℕ → RangeInclusive ℕ → Type 0
-steps = range_inclusive_steps (λ x y. y - x) (λ x y. y ≡ x + 1)
-
-one_less : (a x b n m : ℕ) → x ≡ a → m + 1 ≡ n → b ≡ a + 1 → range_with_len a n ≡ x ∷ range_with_len b m
-one_less a x b n m start less next =
-    let more : n ≡ suc m = omega (arith, less) in
-    ap (range_with_len a) more ∙ ap (λ k. k ∷ range_with_len (a + 1) m) (sym start) ∙ ap (λ k. x ∷ range_with_len k m) (sym next)
-
-the_last : (a x b n m : ℕ) → x ≡ a → m + 1 ≡ n → m ≡ 0 → range_with_len a n ≡ x ∷ range_with_len b m
-the_last a x b n m start less none =
-    let one : n ≡ 1 = omega (arith, less, none) in
-    ap (range_with_len a) one ∙ ap (λ k. k ∷ range_with_len (a + 1) 0) (sym start) ∙ ap (λ k. x ∷ range_with_len b k) (sym none)
-
-one_comes : (s : RangeInclusive ℕ) (x : ℕ) (t : RangeInclusive ℕ) → steps s (Some x) t → numbers_left s ≡ x ∷ numbers_left t
-one_comes s x t h = go t.exhausted refl
+-- there are no more terms than 64
+all_terms : (n : ℕ) → 64 ≤ n → terms_to n ≡ term_word (2 ^ 64 - 1)
+all_terms zero h = absurd (omega arith)
+all_terms (suc n) h = ⊎_elim
+    (λ (l : n < 64). first_terms (suc n) l ∙ ap (λ (k : ℕ). term_word (2 ^ k - 1)) (last n h l))
+    (λ (l : 64 ≤ n).
+    ap (λ (s : TermSet). term_joined s (term_single (suc n))) (all_terms n l)
+    ∙ joined_words (2 ^ 64 - 1) (suc n) (lit< tt) (omega (arith, single_none 64 (suc n) (above n l)))
+    ∙ ap (λ (x : ℕ). term_word (bit_or (2 ^ 64 - 1) x)) (single_none 64 (suc n) (above n l)) ∙ ap term_word (or_zero_r (2 ^ 64 - 1)))
+    (cases_lt n 64)
   where
-    go : (b : Bool) → t.exhausted ≡ b → numbers_left s ≡ x ∷ numbers_left t
-    go true e = the_last s.start x t.start _ _ h.1.0 h.1.1 (ap (count t.start t.end) e)
-    go false e = one_less s.start x t.start _ _ h.1.0 h.1.1 (h.1.2 e)
+    last : (n : ℕ) → 64 ≤ suc n → n < 64 → suc n ≡ 64
+    last n h l = omega arith
 
-from_one : (s : RangeInclusive ℕ) (n : ℕ) → s.start ≡ 1 → s.end ≡ n → s.exhausted ≡ false → numbers_left s ≡ range_with_len 1 n
-from_one s n start end fresh =
-    let all : s.end - s.start + 1 - (s.start - s.end) ≡ n = omega (arith, start, end) in
-    ap (λ k. range_with_len k (count s.start s.end s.exhausted)) start ∙ ap (range_with_len 1) (ap (count s.start s.end) fresh ∙ all)
+    above : (n : ℕ) → 64 ≤ n → 64 < suc n
+    above n l = omega arith
+
+pub returns-then-n-ge64 : goal.returns-then-n-ge64
+returns-then-n-ge64 c = c.of_word.ensures ∙ sym (all_terms c.args.n c.if-n-ge64.true)
 
 pub returns : goal.returns
 returns c =
     let n = c.args.n in
-    let s = c.new.result in
-    let e : 0 + n ≡ n = omega arith in
-    fold_from_yields_List _ with_number c.empty.result _ c.fold.ensures.ran
-    (YieldsList-from_shown steps (λ x. x) numbers_left (λ s t h. length-range_with_len _ _ ∙ h.1.0) one_comes s) (λ a x b q k. search rules)
-    ∙ ap (λ z. fold with_number z (numbers_left s)) c.empty.ensures
-    ∙ ap (fold with_number (terms_to 0)) (from_one s n c.new.ensures.start c.new.ensures.end c.new.ensures.exhausted) ∙ joined_on 0 n ∙ ap terms_to e
+    let once : 1 * 2 ^ n % 2 ^ 64 ≡ 2 ^ n = ap (λ (x : ℕ). x % 2 ^ 64) (one-mul (2 ^ n)) ∙ mod-eq_of_lt (pow_below n 64 c.if-n-ge64.false) in
+    c.of_word-2.ensures ∙ ap (λ (x : ℕ). term_word (x - 1)) once ∙ sym (first_terms n (omega (arith, c.if-n-ge64.false)))
