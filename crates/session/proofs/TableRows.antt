@@ -1,6 +1,6 @@
 -- What is found in the rows of a table, and how rows are put and changed. Assumes nothing.
-use Rattle.std.proofs.Common.{◌≡◌, ℕ, zero, suc, ◌+◌, ◌<◌, Bool, true, false, cond, List, [], ◌∷◌, ◌++◌, length, take, drop, get_or, set, is_some, Some, None, Option, sym, refl, ap, ◌∙◌, ◌||◌, subst, add-one, arith}
-use Rattle.std.specs.List.{slice_get, list_any, position, position_from}
+use Rattle.std.proofs.Common.{◌≡◌, ℕ, zero, suc, ◌+◌, ◌<◌, Bool, true, false, cond, List, [], ◌∷◌, ◌++◌, length, take, drop, get_or, set, is_some, Some, None, Option, sym, refl, ap, ◌∙◌, subst, add-one, arith}
+use Rattle.std.specs.List.{slice_get, position, position_from}
 use Rattle.std.proofs.lemmas.List.Quantifiers.{position-Some}
 use Rattle.std.proofs.lemmas.Option.{slice_get_read}
 use Rattle.std.proofs.lemmas.Iterator.Adapters.{position_from-zero}
@@ -34,14 +34,6 @@ found_from p i (x ∷ xs) = go (p x) (rw add-one (found_from p (suc i) xs))
 
 position_is_found : {X : Type 0} (p : X → Bool) (xs : List X) → position p xs ≡ place_of (found p 0 xs)
 position_is_found p xs = position_from-zero p xs ∙ found_from p 0 xs
-
-pub any_same : {X : Type 0} (p : X → Bool) (xs : List X) → list_any p xs ≡ any p xs
-any_same p [] = refl
-any_same p (x ∷ xs) = go (p x) (any_same p xs)
-  where
-    go : (b : Bool) → list_any p xs ≡ any p xs → (b || list_any p xs) ≡ cond b true (any p xs)
-    go true e = refl
-    go false e = e
 
 -- the row at the place that was found
 found_at : {X : Type 0} (p : X → Bool) (xs : List X) (k : ℕ) (x : X) → Some k ≡ position p xs → At xs k x → Some (k, x) ≡ found p 0 xs

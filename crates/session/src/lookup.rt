@@ -2,7 +2,6 @@
 ghost use Rattle.std.specs.Prelude.{◌≡◌, ◌<◌, length, IfSome, position};
 ghost use Rattle.calculus.specs.Makes.{words};
 ghost use Rattle.calculus.specs.States.{same_set, need_covers};
-ghost use Rattle.std.specs.List.{list_any};
 
 use calculus::state::{Context, Need};
 use numbers::set::NumberSet;
@@ -35,9 +34,9 @@ pub(crate) fn covered_by(needs: &[Need<TermSet>], need: &Need<TermSet>) -> Optio
     needs.iter().position(|row| covers(need, row))
 }
 
-// Whether some need covers the given one.
-pub(crate) fn is_covered(needs: &[Need<TermSet>], need: &Need<TermSet>) -> bool
-    ensures { result ≡ list_any (λ d. need_covers words d need.now) needs.now }
+// The place, counted from 0, of the first need that covers the given one.
+pub(crate) fn covering(needs: &[Need<TermSet>], need: &Need<TermSet>) -> Option<usize>
+    ensures { result ≡ position (λ d. need_covers words d need.now) needs.now }
 {
-    needs.iter().any(|row| covers(row, need))
+    needs.iter().position(|row| covers(row, need))
 }

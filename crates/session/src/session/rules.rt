@@ -6,7 +6,7 @@ ghost use Rattle.calculus.specs.States.{filler_set, target};
 ghost use Rattle.session.specs.Scans.{at_axiom, at_need, more_role, at_edge, edge_applies, pair_opens, onward, pair_result, at_pair};
 
 use super::Session;
-use crate::lookup::{is_covered, with_set};
+use crate::lookup::{covering, with_set};
 use calculus::state::{Context, Finding, Need};
 use numbers::role::DirectedRole;
 use numbers::role_set::RoleSet;
@@ -100,7 +100,7 @@ impl<'a> Session<'a> {
     }
 
     // Whether a result is stored.
-    #[tactic(auto, using(crate::proofs::TableRows::found_is_any, crate::proofs::TableRows::any_same), unfolding(calculus::specs::Search::is_stored))]
+    #[tactic(auto, using(crate::proofs::TableRows::found_is_any), unfolding(calculus::specs::Search::is_stored))]
     fn stores(&self, finding: &Finding<TermSet>) -> bool
         ensures { result ≡ is_stored words self.now finding.now }
     {
@@ -111,7 +111,7 @@ impl<'a> Session<'a> {
                 .get(context)
                 .is_some_and(|row| row.held.includes(terms)),
             Finding::Void { context } => self.contexts.get(context).is_some_and(|row| row.void),
-            Finding::Needed { need } => is_covered(self.needs.all(), &need),
+            Finding::Needed { need } => covering(self.needs.all(), &need).is_some(),
         }
     }
 
