@@ -129,7 +129,7 @@ impl Single {
         let (letter, rest) = parted(text, ":")?;
         let (mark, digits) = parted(rest, ":")?;
         let mark = mark.parse()?;
-        let bytes = hex::decode(heap, digits)?;
+        let bytes = hex_bytes(heap, digits)?;
         match letter {
             "c" => Ok(Single::Catalogue { bytes, mark }),
             "r" => Ok(Single::Records {
@@ -139,6 +139,14 @@ impl Single {
             _ => Err(Unread::NotUnderstood),
         }
     }
+}
+
+// The bytes of a text in hex. It is looked at before memory is asked for, so that a long text that is not hex needs none.
+fn hex_bytes(heap: Global, digits: &str) -> Result<Vec<u8>, Unread> {
+    if !digits.bytes().all(|digit| digit.is_ascii_hexdigit()) {
+        return Err(Unread::NotUnderstood);
+    }
+    Ok(hex::decode(heap, digits)?)
 }
 
 // The parts of a text before and after a separator.
