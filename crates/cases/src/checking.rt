@@ -43,8 +43,10 @@ fn check_noted<S: Shelf>(
         assert_eq!(rt; shelf.entry(place), *entry, "{} of {note:?}", place);
     }
     assert_eq!(rt; shelf.entries().count(), expected.len(), "{note:?}");
-    for (entry, wanted) in shelf.entries().zip(expected) {
+    assert_eq!(rt; shelf.counted_entries().count(), expected.len(), "{note:?}");
+    for ((entry, counted), wanted) in shelf.entries().zip(shelf.counted_entries()).zip(expected) {
         assert_eq!(rt; entry, *wanted, "{note:?}");
+        assert_eq!(rt; counted, *wanted, "{note:?}");
     }
     check_outside(rt, shelf, mark, &[0, count.wrapping_add(1), 65535]);
     Ok(())

@@ -49,7 +49,7 @@ fn push_lines<S: Shelf>(text: &mut String, shelf: &S) -> Result<usize, AllocErro
     ensures { IfOk result (λ n. (string_bytes text.new ≡ string_bytes text.old ++ lines_text 1 (S.Shelf.list shelf.now)) × (n ≡ faults_in (S.Shelf.list shelf.now))) }
 {
     let mut faults = 0;
-    for (i, entry) in shelf.entries().enumerate() {
+    for (i, entry) in shelf.counted_entries().enumerate() {
         let place = i as u16 + 1;
         if entry.is_err() {
             faults += 1;

@@ -9,8 +9,8 @@ use shelf::fault::Entry;
 use shelf::form::Axiom;
 use shelf::shelf::Shelf;
 
-// Whether all entries of a packet are axioms over the vocabulary. Both loops over a packet count its places, since through `entries`
-// a packet of records took over half as long again.
+// Whether all entries of a packet are axioms over the vocabulary. Both loops over a packet count its places, since through
+// `counted_entries` a packet of records took over half as long again.
 #[tactic(auto, using(shelf::specs::EntryLists::entries_next))]
 pub(crate) fn check<S: Shelf>(shelf: &S, vocabulary: Vocabulary) -> Result<(), Refusal>
     ensures { result ≡ take_answer (entries_refusal (terms_to vocabulary.terms) vocabulary.terms vocabulary.roles 1 (S.Shelf.list shelf.now)) }

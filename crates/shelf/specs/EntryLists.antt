@@ -1,10 +1,11 @@
 -- Lists of entries: their length, and what stands at a place. Assumes nothing.
 use Rattle.std.specs.Prelude.{◌≡◌, ℕ, zero, suc, ◌+◌, ◌-◌, ◌<◌, ◌≤◌, true, cond, List, [], ◌∷◌, ◌++◌, length, drop, get_or, ◌==◌, nat_le, slice_index_or, refl}
-use Rattle.std.proofs.Common.{sym, ap, ◌∙◌, add-one, arith, lit≤}
-use Rattle.std.proofs.lemmas.Bool.{leb-true, le-leb, lt-leb, cond-true, cond-false, cond_both, and_from, and_parts, ne_eqb}
+use Rattle.std.proofs.Common.{sym, ap, ◌∙◌, ⊎_elim, add-one, arith, lit≤}
+use Rattle.std.proofs.lemmas.Bool.{cases_lt, leb-true, le-leb, lt-leb, cond-true, cond-false, cond_both, and_from, and_parts, ne_eqb}
 use Rattle.std.proofs.lemmas.List.{drop_all, drop_more, get_or_past, get_or_append_left, get_or-append_right, get_or_default}
 use Rattle.shelf.specs.Shelves.{Entry, entry_at, at_most_all, byteless, all_sound}
-use Rattle.shelf.specs.Coming.{answers}
+use Rattle.shelf.specs.Coming.{answers, counted_left}
+use Rattle.shelf.specs.declared.counted.CountedEntries.{CountedEntries}
 use Rattle.shelf.specs.declared.fault.Cause.TheVariants.{Outside, TooLong}
 
 pub all_short : (m : ℕ) (xs : List Entry) → length (at_most_all m xs) ≤ 65535
@@ -78,3 +79,20 @@ pub all_answers : {S : Type 0} (list : S → List Entry) (mark : S → ℕ) (s t
 all_answers {S} list mark s t k n a b e =
     ap (λ (x : S). answers (list x) (mark x) k (n - k)) a ∙ ap (λ (i : ℕ). answers (list s) (mark s) i (n - i)) b
     ∙ answers_from (list s) (mark s) 0 (n - 0) (omega arith)
+
+-- what is answered at the places from one on to the last is what is left of the list
+answers_to : (xs : List Entry) (m k n : ℕ) → n ≡ length xs → answers xs m k (n - k) ≡ drop k xs
+answers_to xs m k n e = ⊎_elim
+    (λ (l : n < k). ap (answers xs m k) (none l) ∙ answers_none l)
+    (λ (l : k ≤ n). answers_from xs m k (n - k) (omega (arith, e)))
+    (cases_lt n k)
+  where
+    none : n < k → n - k ≡ 0
+    none l = omega arith
+
+    answers_none : n < k → answers xs m k 0 ≡ drop k xs
+    answers_none l = sym (drop_all k xs (omega (arith, e)))
+
+-- while the count is that of the list, what the shelf answers at the places that are left is what is left of its list
+pub counted_is_left : {S : Type 0} (list : S → List Entry) (mark : S → ℕ) (e : CountedEntries S) → e.count ≡ length (list e.shelf.now) → counted_left list mark e ≡ drop e.given (list e.shelf.now)
+counted_is_left list mark e same = answers_to (list e.shelf.now) (mark e.shelf.now) e.given e.count same

@@ -1,6 +1,7 @@
 #![tactic(auto)]
 
 // Shelves: lists of axioms or faults that can be asked.
+pub mod counted;
 pub mod entries;
 pub mod fault;
 pub mod form;

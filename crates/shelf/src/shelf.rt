@@ -1,8 +1,9 @@
 // What a shelf is: a list that can be asked, and a mark.
-ghost use Rattle.std.specs.Prelude.{◌≡◌, ℕ, ◌≤◌, true, List, length};
+ghost use Rattle.std.specs.Prelude.{◌≡◌, ℕ, ◌≤◌, true, List, length, drop};
 ghost use Rattle.shelf.specs.Shelves.{Entry, entry_at, all_sound};
-ghost use Rattle.shelf.specs.Coming.{entries_left};
+ghost use Rattle.shelf.specs.Coming.{entries_left, counted_left};
 
+use crate::counted::CountedEntries;
 use crate::entries::Entries;
 use crate::fault::Entry;
 
@@ -29,11 +30,22 @@ pub trait Shelf {
     fn entry(&self, place: u16) -> Entry
         ensures { result ≡ entry_at (list self.now) (mark self.now) place };
 
-    // The entries in order.
+    // The entries in order. The shelf is asked for its count at each entry, so what is left is always the rest of its list.
     final fn entries(&self) -> Entries<'_, Self>
-        ensures all { entries_left list mark result ≡ list self.now }
+        ensures all { entries_left list result ≡ list self.now }
         ensures few { length (list self.now) ≤ 65535 }
     {
-        Entries::of(self, self.count())
+        Entries::of(self)
+    }
+
+    // The entries in order, by a count that is asked once, since some shelves have to work it out. What is left is what the shelf
+    // answers, and the rest of its list too, as of `entries`.
+    final fn counted_entries(&self) -> CountedEntries<'_, Self>
+        ensures all { counted_left list mark result ≡ list self.now }
+        ensures rest { drop result.given (list result.shelf.now) ≡ list self.now }
+        ensures count { result.count ≡ length (list result.shelf.now) }
+        ensures few { length (list self.now) ≤ 65535 }
+    {
+        CountedEntries::of(self, self.count())
     }
 }

@@ -25,7 +25,7 @@ pub(crate) fn catalogue_length<S: Shelf>(shelf: &S) -> usize
     ensures { result ≡ length (catalogue_bytes (S.Shelf.list shelf.now)) }
 {
     let mut len = 2;
-    for entry in shelf.entries() {
+    for entry in shelf.counted_entries() {
         len += 4 + entry_body(entry).len();
     }
     len
@@ -40,7 +40,7 @@ fn write_lines<S: Shelf>(shelf: &S, lines: &mut [u8])
 {
     let mut at = 0;
     let mut start = 2 + 4 * shelf.count();
-    for entry in shelf.entries() {
+    for entry in shelf.counted_entries() {
         let size = entry_body(entry).len() as u16;
         at = put(lines, at, &start.to_be_bytes());
         at = put(lines, at, &size.to_be_bytes());
@@ -54,7 +54,7 @@ fn write_bodies<S: Shelf>(shelf: &S, room: &mut [u8])
     ensures { room.new ≡ concat (entry_bodies (S.Shelf.list shelf.now)) }
 {
     let mut at = 0;
-    for entry in shelf.entries() {
+    for entry in shelf.counted_entries() {
         at = put(room, at, entry_body(entry).as_slice());
     }
 }

@@ -33,7 +33,7 @@ impl WriteRefusal {
 fn is_faultless<S: Shelf>(shelf: &S) -> bool
     ensures { result ≡ faultless (S.Shelf.list shelf.now) }
 {
-    shelf.entries().all(|entry| entry.is_ok())
+    shelf.counted_entries().all(|entry| entry.is_ok())
 }
 
 // Lays a shelf out as a catalogue at the front of a buffer and answers its length.

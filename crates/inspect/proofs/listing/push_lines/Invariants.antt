@@ -1,6 +1,6 @@
 use Rattle.std.proofs.Common.{◌≡◌, ◌+◌, ◌≤◌, ◌++◌, length, string_bytes}
 use Rattle.std.specs.Iterator.Adapters.{enumerate_count, enumerate_source}
-use Rattle.shelf.specs.Coming.{entries_left}
+use Rattle.shelf.specs.Coming.{counted_left}
 use Rattle.inspect.specs.Listings.{lines_text, faults_in}
 use Rattle.inspect.proofs.listing.push_lines.Given as goal
 
@@ -8,7 +8,7 @@ use Rattle.inspect.proofs.listing.push_lines.Given as goal
 abbrev pub invariant-loop-i : goal.invariant-loop-i
 invariant-loop-i g l =
     let es = g.S.Shelf.list l.shelf in
-    let left = entries_left g.S.Shelf.list g.S.Shelf.mark (enumerate_source l.i-iterator) in
+    let left = counted_left g.S.Shelf.list g.S.Shelf.mark (enumerate_source l.i-iterator) in
     let given = enumerate_count l.i-iterator in
     (goal.iterator-loop-i g).can_next l.i-iterator × (goal.iterator-loop-i g).is_finite l.i-iterator
     × (given + length left ≡ length es)

@@ -1,6 +1,6 @@
 use Rattle.std.proofs.Common.{◌∙◌}
 use Rattle.shelf.specs.EntryLists.{all_answers}
-use Rattle.shelf.proofs.shelf.Shelf.entries.Goals as goal
+use Rattle.shelf.proofs.shelf.Shelf.counted_entries.Goals as goal
 
 pub returns-clause-all : goal.returns-clause-all
 returns-clause-all g c =
