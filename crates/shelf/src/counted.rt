@@ -7,7 +7,7 @@ use crate::fault::Entry;
 use crate::shelf::Shelf;
 
 // A shelf of which the first `given` entries were given, of the first `count`. It keeps the count, which some shelves have to work
-// out.
+// out. That the count is the shelf's own is promised by `counted_entries`, and not by the type.
 #[derive(Clone, Copy)]
 pub struct CountedEntries<'a, S> {
     shelf: &'a S,

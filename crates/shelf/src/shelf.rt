@@ -38,8 +38,8 @@ pub trait Shelf {
         Entries::of(self)
     }
 
-    // The entries in order, by a count that is asked once, since some shelves have to work it out. What is left is what the shelf
-    // answers, and the rest of its list too, as of `entries`.
+    // The entries in order, by a count that is asked once, since some shelves have to work it out. The whole list is left: as what
+    // the shelf answers, and as the rest of the list.
     final fn counted_entries(&self) -> CountedEntries<'_, Self>
         ensures all { counted_left list mark result ≡ list self.now }
         ensures rest { drop result.given (list result.shelf.now) ≡ list self.now }
